@@ -1,0 +1,147 @@
+-- The law of the order of refusals: "Each is given exactly when its condition holds and none earlier in the order does." It holds of
+-- every list of grounds (`first-exactly`), and a list may be judged part by part (`met-append`, `met-front`).
+-- Assumes nothing.
+use mathlib.Core.Path.{_≡_, refl, sym, ap, _∙_}
+use mathlib.Core.Logic.{inl, inr, _↔_}
+use mathlib.Core.Bool.{Bool, true, false, false≢true}
+use mathlib.Core.List.{List, [], _∷_, _++_, append-nil}
+use mathlib.Core.Option.{Option, none, some, Option·some-injective}
+use Prim.Native.Nat.{ℕ, zero, suc, _<_}
+use native.Mathlib.Nat.{not-suc-le-zero}
+use native.Mathlib.Omega.{arith}
+use lib.ListN.{length, getD}
+use Rattle.lists.specs.Choice.{holds, Ground, ground, firstMet}
+use Rattle.lists.specs.Laws.Cases.{by-test}
+use Rattle.lists.specs.Laws.Member.{In, All, of-all, all-of}
+
+-- ---- several tests
+
+-- where all hold, each passes
+pub holds-at : (bs : List Bool) → holds bs ≡ true → (i : ℕ) → i < length bs → getD bs i true ≡ true
+unfolding holds
+holds-at [] e i l = absurd (not-suc-le-zero l)
+holds-at (false ∷ bs) e i l = absurd (false≢true e)
+holds-at (true ∷ bs) e zero l = refl
+holds-at (true ∷ bs) e (suc i) l = holds-at bs e i (omega arith)
+
+-- where each passes, all hold
+pub at-holds : (bs : List Bool) → ((i : ℕ) → i < length bs → getD bs i true ≡ true) → holds bs ≡ true
+unfolding holds
+at-holds [] h = refl
+at-holds (false ∷ bs) h = h 0 (omega arith)
+at-holds (true ∷ bs) h = at-holds bs (λ i l. h (suc i) (omega arith))
+
+module _ {X : Type 0} where
+  -- ---- one ground after the other
+
+  -- no ground, nothing given
+  pub met-none : firstMet {X = X} [] ≡ none
+  unfolding firstMet
+  met-none = refl
+
+  -- the first is met: it is given
+  pub met-here : (g : Ground X) (gs : List (Ground X)) → g .met ≡ true → firstMet (g ∷ gs) ≡ some (g .gives)
+  unfolding firstMet
+  met-here g gs e = rw e
+
+  -- the first is not met: the others decide
+  pub met-on : (g : Ground X) (gs : List (Ground X)) → g .met ≡ false → firstMet (g ∷ gs) ≡ firstMet gs
+  unfolding firstMet
+  met-on g gs e = rw e
+
+  -- a ground written out that is met: it is given
+  pub ground-here : (b : Bool) (x : X) (gs : List (Ground X)) → b ≡ true → firstMet (ground b x ∷ gs) ≡ some x
+  ground-here b x gs e = met-here (ground b x) gs e
+
+  -- a ground written out that is not met: the others decide
+  pub ground-on : (b : Bool) (x : X) (gs : List (Ground X)) → b ≡ false → firstMet (ground b x ∷ gs) ≡ firstMet gs
+  ground-on b x gs e = met-on (ground b x) gs e
+
+  -- one of the two
+  met-cases : (P : Option X → Type 0) (g : Ground X) (gs : List (Ground X)) → (g .met ≡ true → P (some (g .gives))) → (g .met ≡ false → P (firstMet gs))
+      → P (firstMet (g ∷ gs))
+  met-cases P g gs f k = by-test (g .met) (λ e. rw (met-here g gs e) (f e)) (λ e. rw (met-on g gs e) (k e))
+
+  not-both {ℓ} : {Y : Type ℓ} (r : X) → none ≡ some r → Y
+  not-both r e = let q : _≡_ {A = ℕ} 0 1 = cc in absurd (omega arith)
+
+  -- ---- the law
+
+  -- r is given by a ground that is met, and none before it is
+  pub record FirstMet (gs : List (Ground X)) (r : X) : Type 0 where
+    pub before : List (Ground X)
+    pub this : Ground X
+    pub behind : List (Ground X)
+    pub order : gs ≡ before ++ this ∷ behind
+    pub is-met : this .met ≡ true
+    pub says : this .gives ≡ r
+    pub none-before : (g : Ground X) → In g before → g .met ≡ false
+
+  abbrev Fails : Ground X → Type 0
+  Fails g = g .met ≡ false
+
+  met-gives : (gs : List (Ground X)) (r : X) → firstMet gs ≡ some r → FirstMet gs r
+  unfolding firstMet
+  met-gives [] r e = not-both r e
+  met-gives (g ∷ gs) r e =
+      met-cases (λ o. o ≡ some r → FirstMet (g ∷ gs) r) g gs
+      (λ q e. record {
+        before = [];
+        this = g;
+        behind = gs;
+        order = refl;
+        is-met = q;
+        says = Option·some-injective (g .gives) r e;
+        none-before = λ h i. absurd i;
+      })
+      (λ q e.
+      let f = met-gives gs r e in
+      record {
+        before = g ∷ f .before;
+        this = f .this;
+        behind = f .behind;
+        order = ap (λ (l : List (Ground X)). g ∷ l) (f .order);
+        is-met = f .is-met;
+        says = f .says;
+        none-before = all-of Fails (g ∷ f .before) (q, of-all Fails (f .before) (f .none-before));
+      })
+      e
+
+  met-after : (front back : List (Ground X)) → ((g : Ground X) → In g front → g .met ≡ false) → firstMet (front ++ back) ≡ firstMet back
+  met-after [] back h = refl
+  met-after (g ∷ front) back h = met-on g (front ++ back) (h g (inl refl)) ∙ met-after front back (λ f i. h f (inr i))
+
+  -- "Each is given exactly when its condition holds and none earlier in the order does."
+  pub first-exactly : (gs : List (Ground X)) (r : X) → (firstMet gs ≡ some r) ↔ FirstMet gs r
+  first-exactly gs r = (
+    met-gives gs r,
+    λ f.
+        ap firstMet (f .order)
+        ∙ met-after (f .before) (f .this ∷ f .behind) (f .none-before)
+        ∙ met-here (f .this) (f .behind) (f .is-met)
+        ∙ ap some (f .says),
+  )
+
+  all-fail : (gs : List (Ground X)) → firstMet gs ≡ none → All Fails gs
+  all-fail [] e = tt
+  all-fail (g ∷ gs) e = met-cases (λ o. o ≡ none → All Fails (g ∷ gs)) g gs (λ q e. not-both (g .gives) (sym e)) (λ q e. (q, all-fail gs e)) e
+
+  -- nothing is given exactly when no ground is met
+  pub none-exactly : (gs : List (Ground X)) → (firstMet gs ≡ none) ↔ ((g : Ground X) → In g gs → g .met ≡ false)
+  none-exactly gs = (λ e. all-of Fails gs (all-fail gs e), λ h. ap firstMet (sym (append-nil gs)) ∙ met-after gs [] h ∙ met-none)
+
+  -- ---- part by part
+
+  -- a part that gives nothing leaves it to what stands behind
+  pub met-append : (xs ys : List (Ground X)) → firstMet xs ≡ none → firstMet (xs ++ ys) ≡ firstMet ys
+  met-append xs ys e = met-after xs ys (none-exactly xs .0 e)
+
+  -- what a part gives is given, whatever stands behind
+  pub met-front : (xs ys : List (Ground X)) (r : X) → firstMet xs ≡ some r → firstMet (xs ++ ys) ≡ some r
+  unfolding firstMet
+  met-front [] ys r e = not-both r e
+  met-front (g ∷ xs) ys r e =
+      met-cases (λ o. o ≡ some r → firstMet (g ∷ xs ++ ys) ≡ some r) g xs
+      (λ q e. met-here g (xs ++ ys) q ∙ e)
+      (λ q e. met-on g (xs ++ ys) q ∙ met-front xs ys r e)
+      e

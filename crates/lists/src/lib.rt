@@ -1,0 +1,1 @@
+// Definitions and laws of lists and of ranking, in specs/; no code.

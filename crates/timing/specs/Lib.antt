@@ -1,0 +1,23 @@
+-- Document 01 as definitions, in its order.
+pub mod Limits
+pub mod Kinds
+pub mod Refusals
+pub mod Table
+pub mod Structure
+pub mod Clock
+pub mod Paths
+pub mod Slack
+pub mod Rows
+pub mod Check
+pub mod Asked
+pub mod Ranked
+pub mod Field
+pub mod Line
+pub mod Text
+pub mod Printed
+pub mod Value
+pub mod Sheet
+pub mod Laws
+pub mod Demand1
+pub mod Demand2
+pub mod Demand3
