@@ -13,4 +13,6 @@ pub mod Write
 pub mod Integer
 pub mod Ranking
 pub mod Top
+pub mod Pieces
+pub mod Ranks
 pub mod Examples

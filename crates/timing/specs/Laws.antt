@@ -15,3 +15,6 @@ pub mod Accepted
 pub mod Wider
 pub mod Lines
 pub mod Written
+pub mod Steps
+pub mod Counted
+pub mod Valued

@@ -36,13 +36,17 @@ pub record Path : Type 0 where
   pub test : ℕ
   pub walk : List ℕ
 
+-- the path of test j with the walk w
+abbrev pub path : ℕ → List ℕ → Path
+path j w = record { test = j; walk = w }
+
 -- the pin that a path starts at
 unfoldable pub start : Structure → Path → ℕ
 start s p = leaves s (last 0 (p .walk))
 
 -- the paths of test j
 unfoldable pub testPaths : Structure → ℕ → List Path
-testPaths s j = each (λ (w : List ℕ). record { test = j; walk = w }) (walks s (dataPin s j))
+testPaths s j = each (path j) (walks s (dataPin s j))
 
 -- every path of every test, tests ascending
 unfoldable pub paths : Structure → List Path

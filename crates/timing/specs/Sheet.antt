@@ -3,7 +3,7 @@
 -- Assumes nothing.
 use Prim.Native.Nat.{ℕ, _+_, _*_}
 use mathlib.Core.Path.{_≡_, refl}
-use mathlib.Core.List.{List, [], _∷_, _++_}
+use mathlib.Core.List.{[], _∷_, _++_}
 use mathlib.Core.Option.{none, some}
 use lib.ListN.{length, set}
 use lib.IntN.{pos, negsuc}
@@ -17,7 +17,7 @@ use Rattle.lists.specs.Rank.{enter, rank}
 use Rattle.timing.specs.Kinds.{allowed, mayDrive}
 use Rattle.timing.specs.Structure.{pins, arcs, tests, kind, leaves, enters, clockPin, dataPin, structure, times}
 use Rattle.timing.specs.Clock.{into, atFirst, climbBy, climb, route, root, clockArrival, common, pinCredit}
-use Rattle.timing.specs.Paths.{isStart, walksBy, walks, start, testPaths, paths, Path}
+use Rattle.timing.specs.Paths.{isStart, walksBy, walks, start, testPaths, paths, path}
 use Rattle.timing.specs.Slack.{startArrival, pathCredit, gain, loss, slackBefore, slack, ranked, forSetup, forHold}
 use Rattle.timing.specs.Rows.{modeOf, row, firstPaths, rows, total}
 use Rattle.timing.specs.Check.{headerBad, pinBad, rootsBad, endsBad, kindsBad, delayBad, arcsInto, intoBad, isOf, testBad, pinGrounds, arcGround, arcGrounds, intoGrounds, testGrounds, tableGrounds, tableFault}
@@ -57,10 +57,6 @@ table = 7 ∷ 7 ∷ 2 ∷ 200
 -- the sheet's table with the delays e to l on arc a
 unfoldable pub withArc : ℕ → ℕ → ℕ → Table
 withArc a e l = set (set table (25 + 4 * a + 2) e) (25 + 4 * a + 3) l
-
--- the path of test j with these arcs, read backwards
-unfoldable pub path : ℕ → List ℕ → Path
-path j w = record { test = j; walk = w }
 
 -- the sheet's table with the ends from and to on arc a
 unfoldable pub withEnds : ℕ → ℕ → ℕ → Table
@@ -127,7 +123,7 @@ pub record Cases : Type 0 where
   pub claim : printed (bytes "design\t9999999\t7\t2\t2\n") ≡ bytes "refused\t4\t1\n"
 
 pub sheet-holds : Cases
-unfolding sheet table withArc withEnds equal path pick holds firstMet below sum those last any every written each gather onto split same enter rank allowed mayDrive pins arcs tests kind leaves enters clockPin dataPin structure times into atFirst climbBy climb route root clockArrival common pinCredit isStart walksBy walks start testPaths paths startArrival pathCredit gain loss slackBefore slack ranked modeOf row firstPaths rows total headerBad pinBad rootsBad endsBad kindsBad delayBad arcsInto intoBad isOf testBad pinGrounds arcGround arcGrounds intoGrounds testGrounds tableGrounds tableFault askingGrounds askingFault tableRows answerOf answer roomOf roomAfter workOf workAfter isMode modeIn wellFormed valueFrom value numberOr0 letter fieldOf fieldCount isNumber numberIn otherWord fourNumbers designLine lineKind pinLine fourLine askLine fourOf pinOf parts whole lineOf behind lineStart more pinsOf arcsOf testsOf linesDue askNumber tableLength dueLine lineGrounds dueGrounds askGrounds textGrounds textFault dueOf tableOf modeAt kAt modeAsked kAsked readingOf reading filledOf roomFilled digitsBy digits tab printedLine rowNumbers rowLines refusedLine printedAnswer printedTable printedReading printed
+unfolding sheet table withArc withEnds equal pick holds firstMet below sum those last any every written each gather onto split same enter rank allowed mayDrive pins arcs tests kind leaves enters clockPin dataPin structure times into atFirst climbBy climb route root clockArrival common pinCredit isStart walksBy walks start testPaths paths startArrival pathCredit gain loss slackBefore slack ranked modeOf row firstPaths rows total headerBad pinBad rootsBad endsBad kindsBad delayBad arcsInto intoBad isOf testBad pinGrounds arcGround arcGrounds intoGrounds testGrounds tableGrounds tableFault askingGrounds askingFault tableRows answerOf answer roomOf roomAfter workOf workAfter isMode modeIn wellFormed valueFrom value numberOr0 letter fieldOf fieldCount isNumber numberIn otherWord fourNumbers designLine lineKind pinLine fourLine askLine fourOf pinOf parts whole lineOf behind lineStart more pinsOf arcsOf testsOf linesDue askNumber tableLength dueLine lineGrounds dueGrounds askGrounds textGrounds textFault dueOf tableOf modeAt kAt modeAsked kAsked readingOf reading filledOf roomFilled digitsBy digits tab printedLine rowNumbers rowLines refusedLine printedAnswer printedTable printedReading printed
 sheet-holds =
     record {
       read = refl;

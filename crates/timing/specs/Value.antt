@@ -56,3 +56,7 @@ raise forHold s x j = 0
 unfoldable pub lower : Mode → (ℕ → ℕ) → Structure → Times → ℕ → ℕ
 lower forSetup level s x j = x .setup j + level (dataPin s j) * mostTime + base
 lower forHold level s x j = clockArrival late s x (clockPin s j) + x .hold j
+
+-- the value of a walk to a test with the clock pin c
+abbrev pub value : Mode → (ℕ → ℕ) → Structure → Times → ℕ → List ℕ → ℕ
+value m level s x c w = valueOf s (weightOf m level s x) (seedOf m level s x c) w

@@ -69,6 +69,28 @@ impl Design {
     ];
 }
 
+// The kind of a pin, as the table has it.
+pub struct Kind {
+    pub number: usize,
+}
+
+impl Kind {
+    // Clock root.
+    pub const R: usize = 0;
+
+    // Clock buffer pin.
+    pub const B: usize = 1;
+
+    // Flip-flop clock pin.
+    pub const K: usize = 2;
+
+    // Primary input.
+    pub const I: usize = 3;
+
+    // Data pin.
+    pub const D: usize = 4;
+}
+
 // Whether an arc may run from a pin of one kind to a pin of the other; no kind but the five drives or is driven.
 pub fn may_drive(from: usize, to: usize) -> bool
     ensures { λ r. ⌜ r ≡ mayDrive from to ⌝ }

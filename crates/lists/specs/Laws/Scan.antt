@@ -83,6 +83,10 @@ abbrev pub bit : Bool → ℕ
 bit true = 1
 bit false = 0
 
+pub bit-most : (c : Bool) → bit c ≤ 1
+bit-most true = omega arith
+bit-most false = omega arith
+
 -- how many below n pass the test
 unfoldable pub tally : (ℕ → Bool) → ℕ → ℕ
 tally f n = length (those f (below n))
@@ -113,7 +117,3 @@ tally-no f n e = rw (tally-more, e) (omega arith)
 pub tally-most : (f : ℕ → Bool) (n : ℕ) → tally f n ≤ n
 tally-most f zero = omega (arith, tally-none f)
 tally-most f (suc n) = rw (← add-one n, tally-more) (omega (arith, bit-most (f n), tally-most f n))
-  where
-    bit-most : (c : Bool) → bit c ≤ 1
-    bit-most true = omega arith
-    bit-most false = omega arith

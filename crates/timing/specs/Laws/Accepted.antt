@@ -11,7 +11,7 @@ use borrow.Author.Tests.{ltb-true, ltb-false, leb-true, eqb-true, eqb-false, not
 use lib.ListN.{length}
 use lib.Dec.{eqb, leb, ltb}
 use Rattle.lists.specs.Choice.{ground}
-use Rattle.lists.specs.Laws.Member.{clash}
+use Rattle.lists.specs.Laws.Cases.{clash, and-both, or-none}
 use Rattle.lists.specs.Laws.Unmet.{Unmet, unmet-none, unmet-nil, unmet-cons, unmet-first, unmet-rest, unmet-both, unmet-left, unmet-right, unmet-gather, unmet-each}
 use Rattle.timing.specs.declared.Refusal.the-variants.{TableHeader, PinNumbers, RootCount, ArcsInto, TestNumbers}
 use Rattle.timing.specs.Limits.{mostPins, mostArcs, mostTests, mostTime}
@@ -20,7 +20,6 @@ use Rattle.timing.specs.Table.{Table, pinCount, arcCount, testCount, per
 use Rattle.timing.specs.Structure.{Structure, pins, arcs, tests, kind, leaves, enters, clockPin, dataPin, structure, times}
 use Rattle.timing.specs.Clock.{into}
 use Rattle.timing.specs.Check.{headerBad, rangeBad, pinNumbersBad, pinBad, rootsBad, endNumbersBad, endsBad, kindsBad, delayBad, arcsInto, intoNumbersBad, intoBad, isOf, testBad, pinGrounds, arcGround, arcGrounds, intoGrounds, testGrounds, tableGrounds, tableFault}
-use Rattle.timing.specs.Laws.Kinds.{and-both}
 use Rattle.timing.specs.Laws.Sound.{Sound}
 use Rattle.timing.specs.Laws.Ranged.{Ranged}
 use Rattle.timing.specs.Laws.Columns.{pins-is, arcs-is, tests-is, kind-is, leaves-is, enters-is, clock-is, data-is, into-is, roots-are}
@@ -79,10 +78,6 @@ pub clear-exactly : (t : Table) → (tableFault t ≡ none) ↔ Clear t
 clear-exactly t = (clear t, clear-none t)
 
 -- ---- what each condition says where it fails
-
-or-none : (a b : Bool) → (a || b) ≡ false → (a ≡ false) × (b ≡ false)
-or-none true b e = clash true refl e
-or-none false b e = (refl, e)
 
 pub record HeaderFits (t : Table) : Type 0 where
   pub some-pins : 1 ≤ pinCount t

@@ -2,17 +2,14 @@
 -- Assumes nothing.
 use mathlib.Core.Path.{_≡_, refl}
 use mathlib.Core.Logic.{_⊎_, inl, inr}
-use mathlib.Core.Bool.{Bool, true, false, _&&_}
+use mathlib.Core.Bool.{true, _&&_}
 use Prim.Native.Nat.{ℕ, _<_}
 use native.Mathlib.Omega.{arith}
 use borrow.Author.Tests.{eqb-true}
 use lib.Dec.{eqb}
-use Rattle.lists.specs.Laws.Member.{In, any-in, clash}
+use Rattle.lists.specs.Laws.Cases.{and-both}
+use Rattle.lists.specs.Laws.Member.{In, any-in}
 use Rattle.timing.specs.Kinds.{R, B, K, I, D, Pair, allowed, mayDrive}
-
-pub and-both : (a b : Bool) → (a && b) ≡ true → (a ≡ true) × (b ≡ true)
-and-both true b e = (refl, e)
-and-both false b e = clash false e refl
 
 -- what holds of the seven pairs holds of every pair that is allowed
 pub drive-cases : (Q : ℕ → ℕ → Type 0) → Q R B → Q R K → Q B B → Q B K → Q K D → Q I D → Q D D
