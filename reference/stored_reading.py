@@ -8,23 +8,13 @@ reading, a sum over the whole room as it is afterwards, and a sum over the lines
 """
 
 import random
-import struct
-import sys
-from pathlib import Path
 
 import plans
 import toppaths
+from stored import keep, line_of, mix, numbers, packed, sum_of
 from tests_cases import members_of
 
-ROOT = Path(__file__).resolve().parent.parent
-CRATE = ROOT / "crates" / "cases_reading"
-MODULUS = 1000003
 FILL = 4000000007  # what stands in the room before
-
-
-def mix(total, value):
-    """One number more in a sum that depends on order and on every place."""
-    return (total * 131 + value % MODULUS + 1) % MODULUS
 
 
 def single_byte_faults(text, chance):
@@ -145,20 +135,16 @@ def lines_for(text, chance):
 def expected_line(text, room, lines):
     """What the program must print of one stored text."""
     answer, after = toppaths.read(text, [FILL] * room)
-    total = 0
-    for value in after:
-        total = mix(total, value)
     shown = 0
     for n in lines:
         _, content = toppaths.line(text, n)
         shown = mix(shown, len(content))
         for byte in content:
             shown = mix(shown, byte)
-    return b"\t".join(str(x).encode() for x in (*answer, total, shown)) + b"\n"
+    return line_of(*answer, sum_of(after), shown)
 
 
 def make():
-    """The stored data and the output that goes with it."""
     chance = random.Random(3)
     records, printed, seen = [], [], set()
     for text in stored_texts():
@@ -166,23 +152,10 @@ def make():
             continue
         seen.add(text)
         room, lines = room_for(text, chance), lines_for(text, chance)
-        records.append(struct.pack("<3I", len(text), room, len(lines)) + text + struct.pack("<%dI" % len(lines), *lines))
+        records.append(numbers([room, len(lines), *lines]) + text)
         printed.append(expected_line(text, room, lines))
-    return struct.pack("<I", len(records)) + b"".join(records), b"".join(printed)
-
-
-def main():
-    data, printed = make()
-    files = {CRATE / "data" / "texts": data, CRATE / "stdout": printed}
-    if "--check" in sys.argv[1:]:
-        wrong = [str(path.relative_to(ROOT)) for path, content in files.items() if not path.exists() or path.read_bytes() != content]
-        print("stands as made" if not wrong else "differs: " + ", ".join(wrong))
-        sys.exit(1 if wrong else 0)
-    for path, content in files.items():
-        path.parent.mkdir(parents=True, exist_ok=True)
-        path.write_bytes(content)
-    print(f"{printed.count(10)} texts, {len(data)} bytes")
+    return packed(records), b"".join(printed)
 
 
 if __name__ == "__main__":
-    main()
+    keep("cases_reading", "texts", make)

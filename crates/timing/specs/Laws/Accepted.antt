@@ -274,3 +274,8 @@ pub accepted : (t : Table) → tableFault t ≡ none → Accepted t
 accepted t h =
     let c = clear t h in
     record { header = header-fits t (c .header); sound = clear-sound t c; ranged = clear-ranged t c }
+
+-- the level of a pin is its number
+pub accepted-level : (t : Table) (h : tableFault t ≡ none) → accepted t h .sound .level ≡ (λ (p : ℕ). p)
+unfolding accepted clear-sound
+accepted-level t h = refl

@@ -1,0 +1,3 @@
+-- What the reader's contracts are written with.
+pub mod Cut
+pub mod Answer
