@@ -9,6 +9,7 @@ use lib.Dec.{ltb}
 use lib.IntN.{ℤ, pos, negsuc}
 use Rattle.lists.specs.Choice.{pick}
 use Rattle.lists.specs.Parts.{gather}
+use Rattle.lists.specs.Laws.Integer.{up}
 use Rattle.timing.specs.declared.Refusal.{Refusal}
 use Rattle.timing.specs.declared.Reading.{Reading}
 use Rattle.timing.specs.declared.Reading.the-variants.{Read, Refused}
@@ -44,13 +45,13 @@ tab x = 9 ∷ digits x
 unfoldable pub printedLine : Bytes → List ℤ → Bytes
 printedLine word numbers = word ++ (gather tab numbers ++ (10 ∷ []))
 
--- the row of rank n: rank, slack, credit, test, start and, of the places behind the arc count, as many arcs as it says
+-- the arcs of a row: of the places behind the arc count, as many as it says
+unfoldable pub rowArcs : List ℤ → List ℤ
+rowArcs row = take (up (getD row 4 (pos 0))) (drop 5 row)
+
+-- the row of rank n: rank, slack, credit, test, start and the arcs
 unfoldable pub rowNumbers : ℕ → List ℤ → List ℤ
-rowNumbers n row = pos n ∷ (take 4 row ++ take (arcCountOf (getD row 4 (pos 0))) (drop 5 row))
-  where
-    arcCountOf : ℤ → ℕ
-    arcCountOf (pos x) = x
-    arcCountOf (negsuc x) = 0
+rowNumbers n row = pos n ∷ (take 4 row ++ rowArcs row)
 
 -- the rows from rank n on
 unfoldable pub rowLines : ℕ → List (List ℤ) → Bytes

@@ -25,7 +25,7 @@ use Rattle.timing.specs.Asked.{askingGrounds, askingFault, tableRows, an
 use Rattle.timing.specs.Field.{isMode, modeIn, wellFormed, valueFrom, value, numberOr0, letter, Bytes, bytes}
 use Rattle.timing.specs.Line.{fieldOf, fieldCount, isNumber, numberIn, otherWord, fourNumbers, designLine, lineKind, pinLine, fourLine, askLine, fourOf, pinOf}
 use Rattle.timing.specs.Text.{parts, whole, lineOf, behind, lineStart, more, pinsOf, arcsOf, testsOf, linesDue, askNumber, tableLength, dueLine, lineGrounds, dueGrounds, askGrounds, textGrounds, textFault, dueOf, tableOf, modeAt, kAt, modeAsked, kAsked, readingOf, reading, filledOf, roomFilled}
-use Rattle.timing.specs.Printed.{digitsBy, digits, tab, printedLine, rowNumbers, rowLines, refusedLine, printedAnswer, printedTable, printedReading, printed}
+use Rattle.timing.specs.Printed.{digitsBy, digits, tab, printedLine, rowArcs, rowNumbers, rowLines, refusedLine, printedAnswer, printedTable, printedReading, printed}
 
 unfoldable pub sheet : Bytes
 sheet =
@@ -123,7 +123,7 @@ pub record Cases : Type 0 where
   pub claim : printed (bytes "design\t9999999\t7\t2\t2\n") ≡ bytes "refused\t4\t1\n"
 
 pub sheet-holds : Cases
-unfolding sheet table withArc withEnds equal pick holds firstMet below sum those last any every written each gather onto split same enter rank allowed mayDrive pins arcs tests kind leaves enters clockPin dataPin structure times into atFirst climbBy climb route root clockArrival common pinCredit isStart walksBy walks start testPaths paths startArrival pathCredit gain loss slackBefore slack ranked modeOf row firstPaths rows total headerBad pinBad rootsBad endsBad kindsBad delayBad arcsInto intoBad isOf testBad pinGrounds arcGround arcGrounds intoGrounds testGrounds tableGrounds tableFault askingGrounds askingFault tableRows answerOf answer roomOf roomAfter workOf workAfter isMode modeIn wellFormed valueFrom value numberOr0 letter fieldOf fieldCount isNumber numberIn otherWord fourNumbers designLine lineKind pinLine fourLine askLine fourOf pinOf parts whole lineOf behind lineStart more pinsOf arcsOf testsOf linesDue askNumber tableLength dueLine lineGrounds dueGrounds askGrounds textGrounds textFault dueOf tableOf modeAt kAt modeAsked kAsked readingOf reading filledOf roomFilled digitsBy digits tab printedLine rowNumbers rowLines refusedLine printedAnswer printedTable printedReading printed
+unfolding sheet table withArc withEnds equal pick holds firstMet below sum those last any every written each gather onto split same enter rank allowed mayDrive pins arcs tests kind leaves enters clockPin dataPin structure times into atFirst climbBy climb route root clockArrival common pinCredit isStart walksBy walks start testPaths paths startArrival pathCredit gain loss slackBefore slack ranked modeOf row firstPaths rows total headerBad pinBad rootsBad endsBad kindsBad delayBad arcsInto intoBad isOf testBad pinGrounds arcGround arcGrounds intoGrounds testGrounds tableGrounds tableFault askingGrounds askingFault tableRows answerOf answer roomOf roomAfter workOf workAfter isMode modeIn wellFormed valueFrom value numberOr0 letter fieldOf fieldCount isNumber numberIn otherWord fourNumbers designLine lineKind pinLine fourLine askLine fourOf pinOf parts whole lineOf behind lineStart more pinsOf arcsOf testsOf linesDue askNumber tableLength dueLine lineGrounds dueGrounds askGrounds textGrounds textFault dueOf tableOf modeAt kAt modeAsked kAsked readingOf reading filledOf roomFilled digitsBy digits tab printedLine rowArcs rowNumbers rowLines refusedLine printedAnswer printedTable printedReading printed
 sheet-holds =
     record {
       read = refl;

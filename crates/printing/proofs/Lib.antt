@@ -1,0 +1,4 @@
+pub mod Signs
+pub mod Spelling
+pub mod Lines
+pub mod Rows

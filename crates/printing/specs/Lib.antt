@@ -1,0 +1,4 @@
+pub mod Put
+pub mod Room
+pub mod Asking
+pub mod Examples
