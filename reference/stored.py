@@ -19,6 +19,11 @@ def sum_of(values):
     return total
 
 
+def sum_signed(values):
+    """The same of signed numbers: what each has above zero and what it has below."""
+    return sum_of(part for value in values for part in (max(value, 0), max(-value, 0)))
+
+
 def number(value):
     """A number below 2^32: one byte to 250; else 251 and two bytes, or 252 and four, the lowest first."""
     if value <= 250:

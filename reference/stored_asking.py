@@ -12,7 +12,7 @@ import random
 
 import plans
 import toppaths
-from stored import keep, line_of, numbers, packed, sum_of
+from stored import keep, line_of, numbers, packed, sum_of, sum_signed
 from tests_cases import members_of
 
 ROOM_FILL = -7
@@ -111,7 +111,7 @@ def stored_askings():
 
 def expected_line(table, mode, k, room, work):
     answer, room_after, work_after = toppaths.ask(table, mode, k, [ROOM_FILL] * room, [WORK_FILL] * work)
-    return line_of(*answer, sum_of(room_after), sum_of(work_after))
+    return line_of(*answer, sum_signed(room_after), sum_of(work_after))
 
 
 def make():

@@ -65,14 +65,14 @@ fn put_word(out: &mut [u8], at: usize, word: &[u8]) -> usize
 // ---- numbers
 
 // What x has above zero.
-fn above(x: i64) -> u64
+pub fn above(x: i64) -> u64
     ensures { λ r. ⌜ r ≡ up x ⌝ }
 {
     if x < 0 { 0 } else { x as u64 }
 }
 
 // What x has below zero, of the least number too.
-fn below(x: i64) -> u64
+pub fn below(x: i64) -> u64
     ensures { λ r. ⌜ r ≡ down x ⌝ }
 {
     if x < 0 { (-1 - x) as u64 + 1 } else { 0 }

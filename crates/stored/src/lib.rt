@@ -85,6 +85,11 @@ pub fn cut(x: u64, most: usize) -> usize
     if x < most as u64 { x as usize } else { most }
 }
 
+// A stored number of at most 32 bits; the most that 32 bits hold, if it is more.
+pub fn narrow(x: u64) -> u32 {
+    if x < 4294967296 { x as u32 } else { 4294967295 }
+}
+
 // One number more in a sum that depends on order and on every place.
 pub fn mix(total: u64, value: u64) -> u64 {
     ((total % 1000003) * 131 + value % 1000003 + 1) % 1000003

@@ -1,0 +1,5 @@
+-- What the proofs of several functions use.
+mod Turn
+mod Filling
+mod Meeting
+mod Seeding

@@ -1,0 +1,28 @@
+-- `clocks::put_clocking` meets its contract: three stores, one after the other. Assumes nothing.
+use borrow.Author.Needs.{needs}
+use Rattle.clocks.proofs.put_clocking.Statement.{statement}
+use Rattle.clocks.proofs.put_clocking.Tie as tie
+
+put-requires : tie.Need-put-requires
+put-requires c κs = search needs
+
+put-requires-2 : tie.Need-put-requires-2
+put-requires-2 c κs = search needs
+
+put-requires-3 : tie.Need-put-requires-3
+put-requires-3 c κs = search needs
+
+same-length : tie.Need-same-length
+same-length c = search needs
+
+returns : tie.Need-returns
+returns c =
+    rw (
+      c .before .before .put3 .ensures,
+      c .before .before .before .before .before .before .put2 .ensures,
+      c .before .before .before .before .before .before .before .before .before .before .put .ensures,
+    )
+
+pub put-clocking-spec : {M : Type 1} → statement M
+put-clocking-spec =
+    tie.close (tie.spec put-requires put-requires-2 put-requires-3 same-length returns)

@@ -1,0 +1,8 @@
+-- The clock side of a checked table, in a lent work area.
+pub mod Area
+pub mod Clocked
+pub mod Turn
+pub mod Kept
+pub mod Small
+pub mod Tree
+pub mod Known

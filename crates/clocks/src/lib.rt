@@ -1,0 +1,298 @@
+// The clock side of a checked table, in a lent work area: arrivals, parents and depths of the clock tree; the common pin and its credit; what each start brings
+// to a test. All times are in picoseconds.
+use timing::Design;
+use timing::Kind;
+ghost use mathlib.Core.Path.{_≡_};
+ghost use Prim.Native.Nat.{_+_, _<_};
+ghost use lib.ListN.{length, getD, set};
+ghost use Rattle.timing.specs.Table.{pinCount, arcFrom};
+ghost use Rattle.timing.specs.Structure.{structure, times};
+ghost use Rattle.timing.specs.Slack.{startArrival};
+ghost use Rattle.timing.specs.Rows.{modeOf};
+ghost use Rattle.timing.specs.Value.{raise, lower};
+ghost use Rattle.clocks.specs.Area.{Kept, seedsAt, seedsEnd, clocksAt, parentsAt, depthsAt, freeAt};
+ghost use Rattle.clocks.specs.Clocked.{Ready, ClockPin, Parented, Clocked, Two, Asks, Starts, Tested, Common, Spans, Credited, Seed, creditIn, launched, seedFor, Seeded};
+ghost use Rattle.clocks.specs.Turn.{Next, NextDriven, Arrives, withClocking};
+
+// Where the parts of the work area begin that are written here, each a place for each pin: what a start brings to the test at hand,
+const SEEDS: usize = 5377;
+
+// the early and the late clock arrivals,
+const EARLY: usize = 5889;
+
+const LATE: usize = 6145;
+
+// the arc that comes into the pin,
+const PARENTS: usize = 6401;
+
+// and how many arcs lead from R to it.
+const DEPTHS: usize = 6657;
+
+// The seed of a pin that is no start.
+const NONE: u64 = 1152921504606846976;
+
+// No clock arrival is later.
+const BASE: u64 = 256000000;
+
+// A number of the table, for the work area.
+fn word(x: usize) -> u64
+    ensures { λ r. ⌜ r ≡ x ⌝ }
+{
+    x as u64
+}
+
+// A number of the work area, to count with.
+fn count(x: u64) -> usize
+    ensures { λ r. ⌜ r ≡ x ⌝ }
+{
+    x as usize
+}
+
+// The number of pin p in a part of the work area.
+fn at(work: &[u64], part: usize, p: usize) -> u64
+    requires { ⌜ part + p < length (now work) ⌝ }
+    ensures { λ r. ⌜ r ≡ getD (now (work .entry)) (part + p) 0 ⌝ }
+{
+    work[part + p]
+}
+
+// x goes to the place of pin p in a part of the work area.
+fn put(work: &mut [u64], part: usize, p: usize, x: u64)
+    requires { ⌜ part + p < length (now work) ⌝ }
+    ensures { λ _. ⌜ now (work .exit) ≡ set (now (work .entry)) (part + p) x ⌝ }
+{
+    work[part + p] = x;
+}
+
+// ---- the clock tree
+
+// At each clock pin's place the arc that comes into it. A pin of the data side gets one of its arcs, which nothing asks for.
+pub fn parents(table: &[u32], work: &mut [u64])
+    requires { ⌜ Ready (now table) (now work) ⌝ }
+    ensures { λ _. ⌜ Parented (now (table .entry)) (now (work .exit)) × Kept parentsAt depthsAt (now (work .entry)) (now (work .exit)) ⌝ }
+{
+    let n = tables::arc_count(table);
+    let mut a = 0;
+    while a < n {
+        let to = tables::of_arc(table, 1, a);
+        put(work, PARENTS, to, word(a));
+        a += 1;
+    }
+}
+
+// The pin that drives clock pin p.
+fn parent(table: &[u32], work: &[u64], p: usize) -> usize
+    requires { ⌜ parentsAt + p < length (now work) ⌝ }
+    ensures { λ r. ⌜ r ≡ arcFrom (now (table .entry)) (getD (now (work .entry)) (parentsAt + p) 0) ⌝ }
+{
+    tables::of_arc(table, 0, count(at(work, PARENTS, p)))
+}
+
+// When the clock comes to a pin, and over how many arcs.
+struct Clocking {
+    early: u64,
+    late: u64,
+    depth: u64,
+}
+
+// The clocking of a B or a K: the arrivals of the pin that drives it and the delay of the arc between.
+fn driven(table: &[u32], work: &[u64], p: usize) -> Clocking
+    requires { ⌜ NextDriven (now table) p (now work) ⌝ }
+    ensures { λ r. ⌜ Arrives (now (table .entry)) p (r .early) (r .late) (r .depth) ⌝ }
+{
+    let a = count(at(work, PARENTS, p));
+    let from = tables::of_arc(table, 0, a);
+    Clocking {
+        early: at(work, EARLY, from) + word(tables::of_arc(table, 2, a)),
+        late: at(work, LATE, from) + word(tables::of_arc(table, 3, a)),
+        depth: at(work, DEPTHS, from) + 1,
+    }
+}
+
+// The clocking of pin p, next in ascending order: R has its own arrivals; R apart, the kinds up to K are B and K. A pin of the data side has none, and gets
+// zeros.
+fn clocking_of(table: &[u32], work: &[u64], p: usize) -> Clocking
+    requires { ⌜ Next (now table) p (now work) ⌝ }
+    ensures { λ r. ⌜ Arrives (now (table .entry)) p (r .early) (r .late) (r .depth) ⌝ }
+{
+    let kind = tables::of_pin(table, 0, p);
+    if kind == Kind::R {
+        return Clocking {
+            early: word(tables::of_pin(table, 1, p)),
+            late: word(tables::of_pin(table, 2, p)),
+            depth: 0,
+        };
+    }
+    if kind <= Kind::K {
+        return driven(table, work, p);
+    }
+    Clocking {
+        early: 0,
+        late: 0,
+        depth: 0,
+    }
+}
+
+// The clocking of pin p goes to its three places.
+fn put_clocking(work: &mut [u64], p: usize, c: Clocking)
+    requires { ⌜ depthsAt + p < length (now work) ⌝ }
+    ensures { λ _. ⌜ now (work .exit) ≡ withClocking (now (work .entry)) p (c .early) (c .late) (c .depth) ⌝ }
+{
+    put(work, EARLY, p, c.early);
+    put(work, LATE, p, c.late);
+    put(work, DEPTHS, p, c.depth);
+}
+
+// Arrivals and depth of each clock pin, the pins ascending: every arc rises, so a pin comes after the pin that drives it.
+pub fn arrivals(table: &[u32], work: &mut [u64])
+    requires { ⌜ Ready (now table) (now work) × Parented (now table) (now work) ⌝ }
+    ensures { λ _. ⌜ Clocked (now (table .entry)) (now (work .exit)) × Kept clocksAt freeAt (now (work .entry)) (now (work .exit)) ⌝ }
+{
+    let n = tables::pin_count(table);
+    let mut p = 0;
+    while p < n {
+        let c = clocking_of(table, work, p);
+        put_clocking(work, p, c);
+        p += 1;
+    }
+}
+
+// The clock side of a table: parents, arrivals and depths. What stands in the area before and behind them stays.
+pub fn clocks(table: &[u32], work: &mut [u64])
+    requires { ⌜ Ready (now table) (now work) ⌝ }
+    ensures { λ _. ⌜ Clocked (now (table .entry)) (now (work .exit)) × Kept clocksAt freeAt (now (work .entry)) (now (work .exit)) ⌝ }
+{
+    parents(table, work);
+    arrivals(table, work);
+}
+
+// ---- the common pin and its credit
+
+// The lowest common ancestor of two clock pins, from parents and depths alone: the deeper of the two is raised, either if they are equally deep, until they
+// meet.
+pub fn common_pin(table: &[u32], work: &[u64], p: usize, q: usize) -> usize
+    requires { ⌜ Two (now table) (now work) p q ⌝ }
+    ensures { λ r. ⌜ Common (now (table .entry)) p q r ⌝ }
+{
+    let mut a = p;
+    let mut b = q;
+    while a != b {
+        if at(work, DEPTHS, a) < at(work, DEPTHS, b) {
+            b = parent(table, work, b);
+        } else {
+            a = parent(table, work, a);
+        }
+    }
+    a
+}
+
+// The credit of clock pin p: its late arrival minus its early.
+pub fn credit_at(work: &[u64], p: usize) -> u64
+    requires { ⌜ Spans (now work) p ⌝ }
+    ensures { λ r. ⌜ r ≡ creditIn (now (work .entry)) p ⌝ }
+{
+    at(work, LATE, p) - at(work, EARLY, p)
+}
+
+// The credit of a path from pin p to a test with the clock pin c: from a K that of their common pin, else 0.
+pub fn credit_from(table: &[u32], work: &[u64], c: usize, p: usize) -> u64
+    requires { ⌜ Asks (now table) (now work) c p ⌝ }
+    ensures { λ r. ⌜ Credited (now (table .entry)) c p r ⌝ }
+{
+    let launched = tables::of_pin(table, 0, p) == Kind::K;
+    if launched {
+        let common = common_pin(table, work, p, c);
+        credit_at(work, common)
+    } else {
+        0
+    }
+}
+
+// ---- what a start brings, and what is common to the paths of a test
+
+// The arrival of start p that counts in the mode (0 setup: late; else hold: early): a K's clock arrival, an I's own.
+fn start_arrival(table: &[u32], mode: u32, work: &[u64], p: usize) -> u64
+    requires { ⌜ Starts (now table) (now work) p ⌝ }
+    ensures { λ r. ⌜ r ≡ startArrival (launched (modeOf mode)) (structure (now (table .entry))) (times (now (table .entry))) p ⌝ }
+{
+    if tables::of_pin(table, 0, p) == Kind::K {
+        if mode == 0 {
+            return at(work, LATE, p);
+        }
+        return at(work, EARLY, p);
+    }
+    if mode == 0 {
+        return word(tables::of_pin(table, 2, p));
+    }
+    word(tables::of_pin(table, 1, p))
+}
+
+// The seed of pin p for a test with the clock pin c: in hold its arrival and its credit; in setup values count down from a height that grows with the
+// pin's number.
+pub fn seed_at(table: &[u32], mode: u32, work: &[u64], c: usize, p: usize) -> u64
+    requires { ⌜ Asks (now table) (now work) c p ⌝ }
+    ensures { λ r. ⌜ Seed (modeOf mode) (now (table .entry)) c p r ⌝ }
+{
+    let credit = credit_from(table, work, c, p);
+    let arrival = start_arrival(table, mode, work, p);
+    if mode == 0 {
+        word(p * Design::DELAY) + (BASE + credit - arrival)
+    } else {
+        arrival + credit
+    }
+}
+
+// The seed of a K or an I, no start at any other pin.
+fn seed_for(table: &[u32], mode: u32, work: &[u64], c: usize, p: usize) -> u64
+    requires { ⌜ Asks (now table) (now work) c p ⌝ }
+    ensures { λ r. ⌜ r ≡ seedFor (modeOf mode) (now (table .entry)) c p ⌝ }
+{
+    let kind = tables::of_pin(table, 0, p);
+    let start = (kind == Kind::K) | (kind == Kind::I);
+    if start {
+        seed_at(table, mode, work, c, p)
+    } else {
+        NONE
+    }
+}
+
+// The seeds of a test with the clock pin c, one for each pin.
+pub fn seeds(table: &[u32], mode: u32, work: &mut [u64], c: usize)
+    requires { ⌜ Clocked (now table) (now work) × ClockPin (now table) c ⌝ }
+    ensures { λ _. ⌜ Seeded (modeOf mode) (now (table .entry)) c (pinCount (now (table .entry))) (now (work .exit)) × Kept seedsAt seedsEnd (now (work .entry)) (now (work .exit)) ⌝ }
+{
+    let n = tables::pin_count(table);
+    let mut p = 0;
+    while p < n {
+        let seed = seed_for(table, mode, work, c, p);
+        put(work, SEEDS, p, seed);
+        p += 1;
+    }
+}
+
+// What is added to the value of a path of test j: in setup the early arrival of its clock and the period.
+pub fn raise_of(table: &[u32], mode: u32, work: &[u64], j: usize) -> u64
+    requires { ⌜ Tested (now table) (now work) j ⌝ }
+    ensures { λ r. ⌜ r ≡ raise (modeOf mode) (structure (now (table .entry))) (times (now (table .entry))) j ⌝ }
+{
+    if mode == 0 {
+        let clock = tables::of_test(table, 0, j);
+        at(work, EARLY, clock) + word(tables::period_of(table))
+    } else {
+        0
+    }
+}
+
+// What is taken from it to give the slack: in setup the setup time and the height of the data pin; in hold the late arrival of the clock and the hold time.
+pub fn lower_of(table: &[u32], mode: u32, work: &[u64], j: usize) -> u64
+    requires { ⌜ Tested (now table) (now work) j ⌝ }
+    ensures { λ r. ⌜ r ≡ lower (modeOf mode) (λ q. q) (structure (now (table .entry))) (times (now (table .entry))) j ⌝ }
+{
+    if mode == 0 {
+        let height = tables::of_test(table, 1, j) * Design::DELAY;
+        word(tables::of_test(table, 2, j)) + word(height) + BASE
+    } else {
+        let clock = tables::of_test(table, 0, j);
+        at(work, LATE, clock) + word(tables::of_test(table, 3, j))
+    }
+}
