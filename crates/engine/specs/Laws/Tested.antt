@@ -40,5 +40,5 @@ module _ (t : Table) (h : tableFault t ≡ none) where
         by-arcs = A;
         by-seeds = seeds-are (structure t) (seeding mode c) w (o .few-pins)
             (λ v q e. (f v q e, (rw (accepted-level t h) at (seed-most (structure t) (a .sound) (times t) (a .ranged) (modeOf mode) c v l k q)))) g;
-        small = λ v u q i. rw (accepted-level t h) at (value-most (structure t) (a .sound) (times t) (a .ranged) (modeOf mode) c v l k q u i)
+        small = λ v u q i. rw (accepted-level t h) at (value-most (structure t) (a .sound) (times t) (a .ranged) (modeOf mode) c v l k q u i);
       }
