@@ -1,0 +1,6 @@
+-- The laws of the definitions.
+pub mod Prepared
+pub mod Totals
+pub mod Signed
+pub mod Entered
+pub mod Listed

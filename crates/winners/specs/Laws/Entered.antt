@@ -1,0 +1,138 @@
+-- The candidates of the test that stands: how many there are, and the slack of each from its row.
+-- Assumes nothing.
+use mathlib.Core.Path.{_≡_, sym, ap, subst, _∙_}
+use mathlib.Core.List.{List, []}
+use Prim.Native.Nat.{ℕ, suc, _+_, _≤_, _<_}
+use native.Mathlib.Omega.{arith}
+use lib.ListN.{length, getD, take, length-take}
+use lib.Seq.{getD-take}
+use lib.IntN.{ℤ, subℕ}
+use Rattle.lists.specs.Parts.{below}
+use Rattle.lists.specs.Laws.Member.{In, length-each, into-each, into-below}
+use Rattle.lists.specs.Laws.Column.{column-length}
+use Rattle.timing.specs.Table.{Table, pinCount, testData}
+use Rattle.timing.specs.Structure.{pins, tests, clockPin, dataPin, structure, times}
+use Rattle.timing.specs.Paths.{walks}
+use Rattle.timing.specs.Value.{value, rankedWalks, weightOf, seedOf, raise, lower}
+use Rattle.timing.specs.Rows.{modeOf}
+use Rattle.timing.specs.Laws.Accepted.{accepted, accepted-level}
+use Rattle.timing.specs.Laws.Columns.{pins-is, tests-is, data-is}
+use Rattle.timing.specs.Laws.Valued.{raise-most, lower-most}
+use Rattle.worst.specs.Candidates.{bestWalks, candidateAt, candidatesOf, pathOf}
+use Rattle.worst.specs.Laws.Merged.{candidate-value, candidate-walk}
+use Rattle.clocks.specs.Known.{test-data}
+use Rattle.engine.specs.Area.{plan}
+use Rattle.engine.specs.Entries.{entries, walkBy}
+use Rattle.engine.specs.Asked.{At, AtRank, Valued}
+use Rattle.engine.specs.Sorting.{weighing}
+use Rattle.engine.specs.Laws.Best.{is-other}
+use Rattle.engine.specs.Laws.Traced.{entries-walks}
+use Rattle.winners.specs.Standing.{level, testSeed, Standing}
+use Rattle.winners.specs.Winning.{HasRank, candidateOf}
+use Rattle.winners.specs.Laws.Totals.{data-other}
+
+module _ (t : Table) (mode j : ℕ) (w : List ℕ) (S : Standing t mode j w) where
+  inside : testData t j < pins (structure t)
+  inside = rw (pins-is t) (test-data t (S .prepared .clocked .ready .checked) j (S .test))
+
+  -- the data pin of the test has a row
+  pub data-at : At w (testData t j)
+  data-at =
+      let h = S .prepared .clocked .ready .checked in
+      record {
+        size = pinCount t;
+        made = S .made;
+        pin = test-data t h j (S .test);
+        other = rw (S .laid .by-seeds .other (testData t j) inside (data-other t h j (S .test))) (omega arith);
+      }
+
+  -- it has as many entries as the test has candidates
+  pub found : length (entries (plan w) (testData t j)) ≡ length (candidatesOf (modeOf mode) level (structure t) (times t) j)
+  unfolding candidatesOf bestWalks weighing
+  found =
+      let s = structure t in
+      let x = times t in
+      let m = modeOf mode in
+      let v = testData t j in
+      let o = is-other s (weighing t mode) (testSeed t mode j) (plan w) (S .laid) v inside (data-other t (S .prepared .clocked .ready .checked) j (S .test)) in
+      sym (length-each (walkBy (plan w) (suc v)) (entries (plan w) v))
+      ∙ ap length (entries-walks s (weighing t mode) (testSeed t mode j) (plan w) (S .laid) v inside o)
+      ∙ ap (λ (v : ℕ). length (take 16 (rankedWalks s (weighing t mode) (testSeed t mode j) v))) (sym (data-is t j (S .test)))
+      ∙ sym (column-length (candidateAt m level s x j) (length (bestWalks m level s x j)))
+
+-- ---- one candidate
+
+module _ (t : Table) (mode j i : ℕ) (w : List ℕ) (H : HasRank t mode j i w) where
+  pub at-rank : AtRank w (testData t j) i
+  at-rank = record { at = data-at t mode j w (H .standing); real = H .real }
+
+  real : i < length (candidatesOf (modeOf mode) level (structure t) (times t) j)
+  real = rw (found t mode j w (H .standing)) at (H .real)
+
+  ranked : i < length (bestWalks (modeOf mode) level (structure t) (times t) j)
+  unfolding candidatesOf
+  ranked = rw (column-length (candidateAt (modeOf mode) level (structure t) (times t) j) (length (bestWalks (modeOf mode) level (structure t) (times t) j))) at real
+
+  pub test-place : j < tests (structure t)
+  test-place = rw (tests-is t) (H .standing .test)
+
+  module _ (y : ℕ) (is : Valued w (testData t j) i y) where
+    -- the value in the row is that of the walk with this serial
+    best : y ≡ value (modeOf mode) level (structure t) (times t) (clockPin (structure t) j) (getD (bestWalks (modeOf mode) level (structure t) (times t) j) i [])
+    unfolding bestWalks weighing
+    best =
+        let s = structure t in
+        let x = times t in
+        let m = modeOf mode in
+        let S = H .standing in
+        let c = clockPin s j in
+        let ws = rankedWalks s (weightOf m level s x) (seedOf m level s x c) (dataPin s j) in
+        let k : i < 16 = omega (arith, length-take 16 ws, ranked) in
+        is s (weighing t mode) (testSeed t mode j) (S .laid) (inside t mode j w S)
+        ∙ ap (λ (v : ℕ). value m level s x c (getD (rankedWalks s (weightOf m level s x) (seedOf m level s x c) v) i [])) (sym (data-is t j (S .test)))
+        ∙ ap (value m level s x c) (sym (getD-take 16 ws i [] k))
+
+    walk-in : In (getD (bestWalks (modeOf mode) level (structure t) (times t) j) i []) (walks (structure t) (dataPin (structure t) j))
+    unfolding candidatesOf candidateAt pathOf
+    walk-in =
+        let s = structure t in
+        let x = times t in
+        let m = modeOf mode in
+        let n = length (bestWalks m level s x j) in
+        candidate-walk m level s x j (candidateAt m level s x j i) (into-each (candidateAt m level s x j) i (below n) (into-below i n ranked))
+
+    -- it is small
+    pub value-small : y < 1073741824
+    unfolding weighing
+    value-small =
+        let S = H .standing in
+        let s = structure t in
+        let d : dataPin s j < pins s = rw (data-is t j (S .test)) (inside t mode j w S) in
+        rw best (S .laid .small (dataPin s j) (getD (bestWalks (modeOf mode) level s (times t) j) i []) d walk-in)
+
+    -- and gives the slack
+    pub candidate-is : record { slack = subℕ (y + raise (modeOf mode) (structure t) (times t) j) (lower (modeOf mode) level (structure t) (times t) j); test = j; serial = i }
+        ≡ candidateOf t mode j i
+    unfolding candidateAt
+    candidate-is =
+        let s = structure t in
+        let x = times t in
+        let m = modeOf mode in
+        let a = accepted t (H .standing .prepared .clocked .ready .checked) in
+        let e : (level : ℕ → ℕ) → a .sound .level ≡ level → i < length (bestWalks m level s x j)
+        → candidateAt m level s x j i .slack
+        ≡ subℕ (value m level s x (clockPin s j) (getD (bestWalks m level s x j) i []) + raise m s x j) (lower m level s x j) =
+        λ l q k. rw (← q) (candidate-value s (a .sound) x (a .ranged) m j i test-place (rw (← q) at k)) in
+        ap (λ (z : ℤ). record { slack = z; test = j; serial = i }) (rw best (sym (e level (accepted-level t (H .standing .prepared .clocked .ready .checked)) ranked)))
+
+  pub raise-small : raise (modeOf mode) (structure t) (times t) j ≤ 257000000
+  raise-small =
+      let a = accepted t (H .standing .prepared .clocked .ready .checked) in
+      raise-most (structure t) (a .sound) (times t) (a .ranged) (modeOf mode) j test-place
+
+  pub lower-small : lower (modeOf mode) level (structure t) (times t) j ≤ 512000000
+  lower-small =
+      let h = H .standing .prepared .clocked .ready .checked in
+      let a = accepted t h in
+      subst (λ (f : ℕ → ℕ). lower (modeOf mode) f (structure t) (times t) j ≤ 512000000) (accepted-level t h)
+      (lower-most (structure t) (a .sound) (times t) (a .ranged) (modeOf mode) j test-place)
