@@ -1,0 +1,2 @@
+-- What the program does with a text.
+pub mod Read
