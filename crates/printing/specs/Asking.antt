@@ -14,7 +14,10 @@ use Rattle.lists.specs.Parts.{below, each, gather, written}
 use Rattle.lists.specs.Laws.Member.{All, of-all, in-each, in-take}
 use Rattle.lists.specs.Laws.Join.{each-join}
 use Rattle.lists.specs.Laws.Unmet.{unmet-none, unmet-left}
+use Rattle.lists.specs.Laws.Write.{sets}
 use Rattle.timing.specs.declared.Refusal.{Refusal}
+use Rattle.timing.specs.declared.Answer.{Answer}
+use Rattle.timing.specs.Field.{Bytes}
 use Rattle.timing.specs.Limits.{workLength}
 use Rattle.timing.specs.Table.{Table, pinCount}
 use Rattle.timing.specs.Structure.{structure, times}
@@ -27,6 +30,7 @@ use Rattle.timing.specs.Laws.Columns.{pins-is}
 use Rattle.timing.specs.Laws.Order.{ranked-paths}
 use Rattle.timing.specs.Laws.Accepted.{accepted}
 use Rattle.timing.specs.Laws.Written.{row-length}
+use Rattle.printing.specs.Put.{counted}
 use Rattle.printing.specs.Room.{roomRows, printedRoom}
 
 -- ---- rows one behind the other
@@ -104,3 +108,9 @@ module _ (t : Table) (mode k : ℕ) where
       → printedRoom (answer t mode k rowRoom workLength) (pinCount t) (roomAfter t mode k room workLength) ≡ printedTable t mode k
   unfolding printedTable
   printed-room room h = rw h at (room-printed room workLength)
+
+-- the contract of `print` decides the number and the bytes
+pub print-decides : (a : Answer) (pins : ℕ) (room : List ℤ) (out : Bytes) (r s : ℕ) (x y : Bytes)
+    → (r ≡ counted (length (printedRoom a pins room))) × (x ≡ sets out 0 (printedRoom a pins room))
+    → (s ≡ counted (length (printedRoom a pins room))) × (y ≡ sets out 0 (printedRoom a pins room)) → (r ≡ s) × (x ≡ y)
+print-decides a pins room out r s x y e f = (e .0 ∙ sym (f .0), e .1 ∙ sym (f .1))

@@ -1,6 +1,7 @@
 -- What the reader's own functions answer, and the numbers that they write.
 -- Assumes nothing.
 use Prim.Native.Nat.{ℕ, zero, suc, _+_}
+use mathlib.Core.Path.{_≡_, sym, _∙_}
 use mathlib.Core.List.{List, [], _∷_, _++_}
 use mathlib.Core.Option.{Option, none, some}
 use lib.Dec.{ltb}
@@ -9,10 +10,11 @@ use Rattle.lists.specs.Choice.{Ground, ground, firstMet}
 use Rattle.lists.specs.Parts.{below, gather}
 use Rattle.timing.specs.declared.Refusal.{Refusal}
 use Rattle.timing.specs.declared.Refusal.the-variants.{TextLong}
+use Rattle.timing.specs.declared.Reading.{Reading}
 use Rattle.timing.specs.Limits.{mostText}
 use Rattle.timing.specs.Field.{Bytes, numberOr0}
 use Rattle.timing.specs.Line.{designLine, fourOf}
-use Rattle.timing.specs.Text.{lineOf, pinsOf, arcsOf, testsOf, linesDue, askNumber, dueLine, lineGrounds, dueGrounds, askGrounds, dueOf, modeAt, kAt}
+use Rattle.timing.specs.Text.{lineOf, pinsOf, arcsOf, testsOf, linesDue, askNumber, dueLine, lineGrounds, dueGrounds, askGrounds, dueOf, modeAt, kAt, reading, roomFilled}
 use Rattle.reader.specs.declared.Passed.{Passed}
 use Rattle.reader.specs.declared.Passed.the-variants.{Behind, Refused as PassedRefused}
 use Rattle.reader.specs.declared.Asked.{Asked}
@@ -63,3 +65,8 @@ dueNumbers x p i = dueOf p i (lineOf x (2 + i))
 -- the numbers of the first line and of the first n lines due
 unfoldable pub tableTo : Bytes → ℕ → ℕ → List ℕ
 tableTo x p n = fourOf (lineOf x 1) ++ gather (dueNumbers x p) (below n)
+
+-- the contract of `read` decides the reading and the room
+pub read-decides : (x : Bytes) (room : List ℕ) (r s : Reading) (u v : List ℕ) → (r ≡ reading x (length room)) × (u ≡ roomFilled x room)
+    → (s ≡ reading x (length room)) × (v ≡ roomFilled x room) → (r ≡ s) × (u ≡ v)
+read-decides x room r s u v e f = (e .0 ∙ sym (f .0), e .1 ∙ sym (f .1))

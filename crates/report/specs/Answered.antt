@@ -1,4 +1,6 @@
 -- The answer to an asking that is not refused, from the winners of all tests.
+--
+-- The ranked list holds the best 16 of all tests. Its first k, or all if fewer, are the best k, and their rows are the rows of the table.
 -- Assumes nothing.
 use mathlib.Core.Path.{_≡_, sym, ap, ap₂, subst, _∙_}
 use mathlib.Core.Bool.{false, _||_}
@@ -169,3 +171,10 @@ module _ (t : Table) (mode k : ℕ) (room : List ℤ) (work : List ℕ) where
     a .rows-stand ∙ sym (ap (λ (o : Option Refusal). roomOf o t mode k room) h),
     front-cleared workLength work y (a .cleared) ∙ sym (ap (λ (o : Option Refusal). workOf o work) h),
   )
+
+  -- the contract decides the answer, the room and the work area
+  pub ask-decides : (r s : Answer) (x y : List ℤ) (u v : List ℕ)
+      → (r ≡ answer t mode k (length room) (length work)) × (x ≡ roomAfter t mode k room (length work)) × (u ≡ workAfter t mode k (length room) work)
+      → (s ≡ answer t mode k (length room) (length work)) × (y ≡ roomAfter t mode k room (length work)) × (v ≡ workAfter t mode k (length room) work)
+      → (r ≡ s) × (x ≡ y) × (u ≡ v)
+  ask-decides r s x y u v e f = (e .0 ∙ sym (f .0), e .1 ∙ sym (f .1), e .2 ∙ sym (f .2))

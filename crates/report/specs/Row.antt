@@ -6,8 +6,8 @@ use Prim.Native.Nat.{ℕ, suc, _+_, _-_, _≤_, _<_}
 use native.Mathlib.Nat.{not-suc-le-zero}
 use native.Mathlib.Omega.{arith}
 use native.Mathlib.Decide.{decLt}
-use lib.ListN.{length, getD, replicate, length-append, length-replicate, length-reverse, getD-replicate, List·getD-append}
-use lib.Seq.{getD-append-add, getD-at}
+use lib.ListN.{length, getD, take, drop, replicate, length-drop, length-append, length-replicate, length-reverse, getD-replicate, List·getD-append}
+use lib.Seq.{length-take-le, getD-append-add, getD-at}
 use lib.IntN.{ℤ, pos}
 use Rattle.lists.specs.Parts.{each}
 use Rattle.lists.specs.Laws.Member.{length-each}
@@ -48,6 +48,10 @@ pub record Puts (w : List ℕ) (at credit test start n places : ℕ) : Type 0 wh
   pub room : n + 5 ≤ places
 
 -- ---- laws
+
+-- the walk that stands at a place
+pub walk-length : (w : List ℕ) (at n : ℕ) → at + n ≤ length w → length (take n (drop at w)) ≡ n
+walk-length w at n h = length-take-le n (drop at w) (omega (arith, length-drop at w))
 
 turned-length : (walk : List ℕ) → length (each pos (reverse walk)) ≡ length walk
 turned-length walk = length-each pos (reverse walk) ∙ length-reverse walk

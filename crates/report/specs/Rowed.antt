@@ -1,4 +1,7 @@
 -- One candidate's row: what is asked of the work area, and what tracing its walk there tells.
+--
+-- A candidate stands for a path over one of the best walks of its test. The walk is traced to the free part of the work area; its last arc leaves the start,
+-- start and clock pin give the credit, and the candidate has the slack: that is the row, and nothing before the free part has changed.
 -- Assumes nothing.
 use mathlib.Core.Path.{_≡_, refl, sym, ap, ap₂, _∙_}
 use mathlib.Core.Option.{none}
@@ -70,12 +73,14 @@ last-at (a ∷ b ∷ w) d h =
     let e : suc (suc (length w)) - 1 ≡ suc (suc (length w) - 1) = omega arith in
     ap (λ (n : ℕ). getD (a ∷ b ∷ w) n 0) e ∙ last-at (b ∷ w) a (omega arith)
 
+-- a walk has an arc
 some-arcs : (s : Structure) (v : ℕ) (w : List ℕ) → Walk s v w → 1 ≤ length w
 some-arcs s v [] k = absurd k
 some-arcs s v (a ∷ w) k = omega arith
 
 module _ (t : Table) (mode : ℕ) (w : List ℕ) (c : Candidate) (S : Standing t mode (c .test) w)
     (i : In c (candidatesOf (modeOf mode) level (structure t) (times t) (c .test))) where
+  -- the structure, the path, and the pin where it ends
   abbrev s : Structure
   s = structure t
 
@@ -108,22 +113,26 @@ module _ (t : Table) (mode : ℕ) (w : List ℕ) (c : Candidate) (S : Standing t
   unfolding walks
   is-walk = walks-sound s (pins s) (dataPin s (c .test)) (p .walk) (candidate-walk (modeOf mode) level s (times t) (c .test) c i)
 
+  -- of one arc at least
   pub arcs-some : 1 ≤ length (p .walk)
   arcs-some = some-arcs s (dataPin s (c .test)) (p .walk) is-walk
 
+  -- and fewer than there are pins
   pub arcs-few : length (p .walk) < pinCount t
   arcs-few =
       let r = walk-rises s ok (dataPin s (c .test)) (p .walk) is-walk in
       let v = ok .level-in (dataPin s (c .test)) (ok .data-in (c .test) place) in
       omega (arith, r, v, pins-is t)
 
+  -- each with a number below 1,024
   pub arcs-low : (n : ℕ) → n < length (p .walk) → getD (p .walk) n 0 < 1024
   arcs-low n l =
       let a = walk-arcs s ok (dataPin s (c .test)) (p .walk) is-walk (getD (p .walk) n 0) (in-place 0 (p .walk) n l) .0 in
       omega (arith, a, arcs-is t, accepted t fine .header .few-arcs)
 
-  -- ---- tracing
+  -- ---- tracing: v is the work area with the walk, n its arcs
 
+  -- the data pin has an entry at the candidate's serial
   pub at-rank : AtRank w end (c .serial)
   unfolding bestWalks weighing
   at-rank =
@@ -132,6 +141,7 @@ module _ (t : Table) (mode : ℕ) (w : List ℕ) (c : Candidate) (S : Standing t
       let n = entries-count s (weighing t mode) (testSeed t mode (c .test)) (plan w) (S .laid) end q (a .other) in
       record { at = a; real = rw (n, ← same-data) best }
 
+  -- and there is room for its walk
   pub walk-room : Room w end walkPlace
   walk-room = record { behind = omega arith; inside = omega (arith, data-in, accepted t fine .header .few-pins, S .prepared .clocked .ready .room) }
 
@@ -157,6 +167,7 @@ module _ (t : Table) (mode : ℕ) (w : List ℕ) (c : Candidate) (S : Standing t
     pub traced-is : take n (drop walkPlace v) ≡ p .walk
     traced-is = told .1
 
+    -- place by place
     pub traced-at : (j : ℕ) → j < n → getD v (walkPlace + j) 0 ≡ getD (p .walk) j 0
     traced-at j l = sym (getD-drop walkPlace v j 0) ∙ sym (getD-take n (drop walkPlace v) j 0 l) ∙ ap (λ (a : List ℕ). getD a j 0) traced-is
 
@@ -182,6 +193,7 @@ module _ (t : Table) (mode : ℕ) (w : List ℕ) (c : Candidate) (S : Standing t
         traced-at (n - 1) (omega (arith, arcs-some)) ∙ ap (λ (m : ℕ). getD (p .walk) (m - 1) 0) e ∙ last-at (p .walk) 0 arcs-some in
         ap (arcFrom t) a ∙ sym (leaves-is t (last 0 (p .walk)) (rw (arcs-is t) at (last-arc s (p .walk) (dataPin s (c .test)) is-walk)))
 
+    -- which is a pin
     pub start-in : start s p < pinCount t
     unfolding start
     start-in = rw (pins-is t) at (ok .from-in (last 0 (p .walk)) (last-arc s (p .walk) (dataPin s (c .test)) is-walk))
@@ -191,6 +203,7 @@ module _ (t : Table) (mode : ℕ) (w : List ℕ) (c : Candidate) (S : Standing t
     unfolding creditFrom pathCredit pathOf
     credit-is m k = k .is (modeOf mode) ∙ rw (← (clock-is t (c .test) (S .test)))
 
+    -- which fits a signed number
     pub credit-fits : (m : ℕ) → Credited t (testClock t (c .test)) (start s p) m → m < signed
     credit-fits m k =
         omega (arith, k .is (modeOf mode), credit-most t fine (modeOf mode) (testClock t (c .test)) (start s p) (test-clock t fine (c .test) (S .test)) start-in)

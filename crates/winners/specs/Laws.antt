@@ -4,3 +4,5 @@ pub mod Totals
 pub mod Signed
 pub mod Entered
 pub mod Listed
+pub mod Least
+pub mod Bounded

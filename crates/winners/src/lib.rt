@@ -1,5 +1,5 @@
 // The winners of all tests, over a table that passed its check: the work area is prepared once, the rows of one test after the other are laid in it, and the
-// candidates of each test enter a ranked list.
+// candidates of each test enter a ranked list. A test whose bound shows that none of its candidates would enter is left out.
 use timing::Candidate;
 use timing::Design;
 ghost use mathlib.Core.Path.{_≡_};
@@ -14,13 +14,16 @@ ghost use Rattle.timing.specs.Table.{testCount};
 ghost use Rattle.timing.specs.Structure.{structure};
 ghost use Rattle.timing.specs.Rows.{total};
 ghost use Rattle.timing.specs.Ranked.{newCount, listAfter};
-ghost use Rattle.clocks.specs.Clocked.{Ready};
+ghost use Rattle.clocks.specs.Clocked.{Clocked, Tested};
+ghost use Rattle.clocks.specs.Clocked as clocked;
+ghost use Rattle.engine.specs.Laid.{Ready};
+ghost use Rattle.engine.specs.Steps.{Counts};
 ghost use Rattle.winners.specs.Standing.{Prepared, Standing};
-ghost use Rattle.winners.specs.Winning.{Sown, countAt, candidateOf, HasRank, Full, HoldsBelow, AllWinners};
+ghost use Rattle.winners.specs.Winning.{Sown, countAt, recordOf, candidateOf, HasRank, Above, Come, LeastInto, Leasts, Shared, Next, AllBounds, Full, HoldsBelow, AllWinners};
 
 // The sorted arcs and the clock side of a table, for all tests.
 pub fn prepare(table: &[u32], mode: u32, work: &mut [u64])
-    requires { ⌜ Ready (now table) (now work) ⌝ }
+    requires { ⌜ clocked.Ready (now table) (now work) ⌝ }
     ensures { λ _. ⌜ Prepared (now (table .entry)) mode (now (work .exit)) × (length (now (work .exit)) ≡ length (now (work .entry))) ⌝ }
 {
     engine::sort(table, mode, work);
@@ -60,7 +63,7 @@ fn add_capped(x: u64, y: u64) -> u64
 
 // The counts of the tests' data pins, added up.
 fn add_counts(table: &[u32], work: &[u64]) -> u64
-    requires { ⌜ Ready (now table) (now work) ⌝ }
+    requires { ⌜ clocked.Ready (now table) (now work) ⌝ }
     ensures { λ r. ⌜ r ≡ countTo mostTotal (countAt (now (table .entry)) (now (work .entry))) (testCount (now (table .entry))) ⌝ }
 {
     let n = tables::test_count(table);
@@ -125,12 +128,11 @@ fn word(x: usize) -> u64
     x as u64
 }
 
-// The candidate of the test that stands, with serial i: its slack is the value of its walk, raised and lowered by what the test alone decides.
-fn candidate(table: &[u32], mode: u32, work: &[u64], j: usize, i: usize) -> Candidate
-    requires { ⌜ HasRank (now table) mode j i (now work) ⌝ }
-    ensures { λ r. ⌜ r ≡ candidateOf (now (table .entry)) mode j i ⌝ }
+// The record of test j for a value and a serial: its slack is the value, raised and lowered by what the test alone decides.
+fn record_of(table: &[u32], mode: u32, work: &[u64], j: usize, value: u64, i: usize) -> Candidate
+    requires { ⌜ Tested (now table) (now work) j × (value < 1073741824) ⌝ }
+    ensures { λ r. ⌜ r ≡ recordOf (now (table .entry)) mode j value i ⌝ }
 {
-    let value = engine::value(work, tables::of_test(table, 1, j), i);
     let raise = clocks::raise_of(table, mode, work, j);
     let lower = clocks::lower_of(table, mode, work, j);
     let slack = difference(value + raise, lower);
@@ -139,6 +141,15 @@ fn candidate(table: &[u32], mode: u32, work: &[u64], j: usize, i: usize) -> Cand
         test: word(j),
         serial: word(i),
     }
+}
+
+// The candidate of the test that stands, with serial i.
+fn candidate(table: &[u32], mode: u32, work: &[u64], j: usize, i: usize) -> Candidate
+    requires { ⌜ HasRank (now table) mode j i (now work) ⌝ }
+    ensures { λ r. ⌜ r ≡ candidateOf (now (table .entry)) mode j i ⌝ }
+{
+    let value = engine::value(work, tables::of_test(table, 1, j), i);
+    record_of(table, mode, work, j, value, i)
 }
 
 // Whether c stays out of a full list: its last record is not greater than c.
@@ -188,17 +199,138 @@ fn enter_test(table: &[u32], mode: u32, work: &[u64], j: usize, won: Winners) ->
     w
 }
 
+// ---- the tests that can be left out
+
+// A pin on the clock routes of all tests: the common pin of their clock pins.
+fn shared_clock(table: &[u32], work: &[u64]) -> usize
+    requires { ⌜ Clocked (now table) (now work) × (0 < testCount (now table)) ⌝ }
+    ensures { λ r. ⌜ Above (now (table .entry)) (testCount (now (table .entry))) r ⌝ }
+{
+    let n = tables::test_count(table);
+    let mut clock = tables::of_test(table, 0, 0);
+    let mut next = 1;
+    while next < n {
+        let other = tables::of_test(table, 0, next);
+        clock = clocks::common_pin(table, work, clock, other);
+        next += 1;
+    }
+    clock
+}
+
+// The lesser of two.
+fn lesser(a: u64, b: u64) -> u64
+    ensures { λ r. ⌜ (r ≤ a) × (r ≤ b) ⌝ }
+{
+    if a < b { a } else { b }
+}
+
+// What a walk has come to that goes on from pin p: at a start its seed, else the least value at the pin.
+fn come_to(work: &[u64], p: usize) -> u64
+    requires { ⌜ (p < 256) × (5889 ≤ length (now work)) ⌝ }
+    ensures { λ r. ⌜ Come (now (work .entry)) p r ⌝ }
+{
+    let seed = work[engine::SEEDS + p];
+    if seed < engine::NONE {
+        return seed;
+    }
+    lesser(work[engine::COUNTS + p], engine::NONE)
+}
+
+// The least value that the arcs into pin v bring.
+fn least_into(work: &[u64], v: usize) -> u64
+    requires { ⌜ Counts (now work) v ⌝ }
+    ensures { λ r. ⌜ LeastInto (now (work .entry)) v r ⌝ }
+{
+    let mut i = work[engine::FIRSTS + v] as usize;
+    let end = work[engine::FIRSTS + v + 1] as usize;
+    let mut least = engine::NONE;
+    while i < end {
+        let word = work[engine::ARCS + i];
+        let from = come_to(work, (word / 1024 % 256) as usize);
+        least = lesser(least, from + word / 262144);
+        i += 1;
+    }
+    least
+}
+
+// The least value at each pin, the pins ascending: every arc rises, so a pin comes after those that its arcs leave. They stand where the counts do.
+fn least_values(work: &mut [u64], pins: usize)
+    requires { ⌜ Ready (now work) pins ⌝ }
+    ensures { λ _. ⌜ Leasts (now (work .entry)) (now (work .exit)) pins ⌝ }
+{
+    let mut v = 0;
+    while v < pins {
+        let least = least_into(work, v);
+        work[engine::COUNTS + v] = least;
+        v += 1;
+    }
+}
+
+// The least values against the shared clock pin: they are at most those of each test.
+fn lay_shared(table: &[u32], mode: u32, work: &mut [u64])
+    requires { ⌜ Prepared (now table) mode (now work) × (0 < testCount (now table)) ⌝ }
+    ensures { λ _. ⌜ Shared (now (table .entry)) mode (now (work .exit)) ⌝ }
+{
+    let clock = shared_clock(table, work);
+    clocks::seeds(table, mode, work, clock);
+    least_values(work, tables::pin_count(table));
+}
+
+// A bound for each test: the least value at its data pin against the shared clock pin.
+fn bounds_of(table: &[u32], mode: u32, work: &mut [u64]) -> [u64; Design::TESTS]
+    requires { ⌜ Prepared (now table) mode (now work) × (0 < testCount (now table)) ⌝ }
+    ensures { λ r. ⌜ AllBounds (now (table .entry)) mode r × Prepared (now (table .entry)) mode (now (work .exit)) ⌝ }
+{
+    lay_shared(table, mode, work);
+    let n = tables::test_count(table);
+    let mut bounds = [0u64; Design::TESTS];
+    let mut test = 0;
+    while test < n {
+        let data = tables::of_test(table, 1, test);
+        bounds[test] = work[engine::COUNTS + data];
+        test += 1;
+    }
+    bounds
+}
+
+// The candidates of test j enter, unless the first that its bound allows stays out: all of them would.
+fn take_test(
+    table: &[u32],
+    mode: u32,
+    work: &mut [u64],
+    j: usize,
+    bound: u64,
+    won: Winners,
+) -> Winners
+    requires { ⌜ Next (now table) mode j bound (now work) ⌝ }
+    requires { ⌜ HoldsBelow (now table) mode j (won .list) (won .count) ⌝ }
+    ensures { λ r. ⌜ HoldsBelow (now (table .entry)) mode (j + 1) (r .list) (r .count) × Prepared (now (table .entry)) mode (now (work .exit)) ⌝ }
+{
+    let first = record_of(table, mode, work, j, bound, 0);
+    if stays_out(won, first) {
+        return won;
+    }
+    lay(table, mode, work, j);
+    enter_test(table, mode, work, j, won)
+}
+
+// ---- all tests
+
 // The winners of all tests, the tests ascending.
 pub fn all_winners(table: &[u32], mode: u32, work: &mut [u64]) -> Winners
     requires { ⌜ Prepared (now table) mode (now work) ⌝ }
-    ensures { λ r. ⌜ AllWinners (now (table .entry)) mode (r .list) (r .count) × Prepared (now (table .entry)) mode (now (work .exit)) ⌝ }
+    ensures { λ r. ⌜ AllWinners (now (table .entry)) mode (r .list) (r .count) × Prepared (now (table .entry)) mode (now (work .exit)) × (length (now (work .exit)) ≡ length (now (work .entry))) ⌝ }
 {
     let tests = tables::test_count(table);
     let mut won = no_winners();
+    if tests == 0 {
+        return won;
+    }
+    let bounds = bounds_of(table, mode, work);
     let mut j = 0;
     while j < tests {
-        lay(table, mode, work, j);
-        won = enter_test(table, mode, work, j, won);
+        let bound = bounds[j];
+        won = take_test(table, mode, work, j, bound, won);
         j += 1;
     }
     won

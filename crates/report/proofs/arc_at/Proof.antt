@@ -4,17 +4,14 @@ use mathlib.Core.List.{List}
 use Prim.Native.Nat.{ℕ, _≤_, _<_, _+_, _-_}
 use native.Mathlib.Omega.{arith}
 use lib.IntN.{pos}
-use lib.ListN.{length, getD, take, drop, length-drop}
-use lib.Seq.{getD-take, getD-drop, length-take-le}
+use lib.ListN.{length, getD, take, drop}
+use lib.Seq.{getD-take, getD-drop}
 use mir.Syntax.{w64}
 use mir.ValLaws.{toZ-ofZ}
-use Rattle.report.specs.Row.{arcPlaces, place-arc, place-zero}
+use Rattle.report.specs.Row.{arcPlaces, walk-length, place-arc, place-zero}
 use borrow.Author.Needs.{needs}
 use Rattle.report.proofs.arc_at.Statement.{statement}
 use Rattle.report.proofs.arc_at.Tie as tie
-
-walk-length : (w : List ℕ) (at n : ℕ) → at + n ≤ length w → length (take n (drop at w)) ≡ n
-walk-length w at n h = length-take-le n (drop at w) (omega (arith, length-drop at w))
 
 arc : (w : List ℕ) (at n i p : ℕ) → i < n → at + n ≤ length w → pos (getD w (at + (n - 1 - i)) 0) ≡ getD (arcPlaces p (take n (drop at w))) i (pos 0)
 arc w at n i p h k =
@@ -42,7 +39,7 @@ shared-slice-read-up : tie.Need-shared-slice-read-up
 shared-slice-read-up c = search needs
 
 up-requires : tie.Need-up-requires
-up-requires c κs = c .before .before .before .pre .small (c .before .before .before .args .n - 1 - c .before .before .before .args .i) (omega arith)
+up-requires c κs = c .before .before .before .pre .small _ (omega arith)
 
 up-requires-2 : tie.Need-up-requires-2
 up-requires-2 c κs = search needs

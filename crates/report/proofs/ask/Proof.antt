@@ -16,10 +16,10 @@ use Rattle.report.proofs.ask.Tie as tie
 
 -- nothing is refused
 fine : (c : tie.After-enum-told)
-    → askingFault (c .before .before .before .before .before .args .table .now) (c .before .before .before .before .before .args .mode) (c .before .before .before .before .before .args .k) (length (c .before .before .before .before .before .args .room .now)) (length (c .before .before .before .before .before .args .work .now)) ≡ none
+    → let s = c .before .before .before .before .before .args in askingFault (s .table .now) (s .mode) (s .k) (length (s .room .now)) (length (s .work .now)) ≡ none
 fine c = found-none _ (sym (c .enum-told .given .1) ∙ c .before .before .asking-fine .ensures)
 
-allowed : (c : tie.After-enum-told) → Granted (c .before .before .before .before .before .args .table .now) (c .before .before .before .before .before .args .k) (length (c .before .before .before .before .before .args .room .now)) (length (c .before .before .before .before .before .args .work .now))
+allowed : (c : tie.After-enum-told) → let s = c .before .before .before .before .before .args in Granted (s .table .now) (s .k) (length (s .room .now)) (length (s .work .now))
 allowed c = let s = c .before .before .before .before .before in granted (s .args .table .now) (s .args .mode) (s .args .k) (length (s .args .room .now)) (length (s .args .work .now)) (fine c)
 
 asking-fine-requires : tie.Need-asking-fine-requires

@@ -16,12 +16,12 @@ fine : (c : tie.After-enum-told) → tableFault (c .before .before .before .befo
 fine c = found-none _ (sym (c .enum-told .given .1) ∙ c .before .before .check .ensures)
 
 -- 14 is not met
-asked : (c : tie.Else1) → askingBad (c .before .before .before .before .before .before .args .mode) (c .before .before .before .before .before .before .args .k) ≡ false
+asked : (c : tie.Else1) → let s = c .before .before .before .before .before .before .args in askingBad (s .mode) (s .k) ≡ false
 asked c = sym (c .before .asking-bad .ensures) ∙ c .if1 .left
 
 -- whether 15 is
 room : (c : tie.After-room-bad)
-    → c .room-bad .result ≡ roomBad (pinCount (c .before .before .before .before .before .before .before .before .args .table .now)) (c .before .before .before .before .before .before .before .before .args .k) (c .before .before .before .before .before .before .before .before .args .room) (c .before .before .before .before .before .before .before .before .args .work)
+    → let s = c .before .before .before .before .before .before .before .before .args in c .room-bad .result ≡ roomBad (pinCount (s .table .now)) (s .k) (s .room) (s .work)
 room c = rw (c .before .pin-count .ensures) at (c .room-bad .ensures)
 
 check-requires : tie.Need-check-requires

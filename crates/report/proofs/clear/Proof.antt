@@ -51,7 +51,7 @@ loop-less : tie.Need-loop-less Inv-loop μ-loop
 loop-less c = search needs
 
 loop-again : tie.Need-loop-again Inv-loop μ-loop
-loop-again c = one-more _ _ _ (c .before .before .pre) (c .before .loop .inv) (c .loop-test .taken)
+loop-again c = one-more _ _ _ (c .before .before .pre) (c .before .loop .inv) (omega arith)
 
 same-length : tie.Need-same-length Inv-loop μ-loop
 same-length c = search needs

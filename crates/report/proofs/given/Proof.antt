@@ -1,10 +1,7 @@
 -- `report::given` meets its contract: the first of the winners are the best k of all tests, and their rows are those of the table. Assumes nothing.
-use mathlib.Core.Path.{_≡_, ap, ap₂, _∙_}
-use mathlib.Core.List.{List}
+use mathlib.Core.Path.{_≡_, ap₂}
 use native.Mathlib.Omega.{arith}
 use lib.ListN.{length}
-use lib.IntN.{ℤ}
-use Rattle.lists.specs.Parts.{written}
 use Rattle.timing.specs.Limits.{workLength}
 use Rattle.timing.specs.declared.Answer.the-variants.{Given}
 use Rattle.report.specs.Answered.{first-writes, rows-are, rows-count, cleared-is}
@@ -60,9 +57,8 @@ returns c =
       told = ap₂ Given
           (rows-count t (s .args .mode) (s .args .k) (won .result .list) (won .result .count) (s .pre .0 .checked) (s .pre .0 .few) (won .ensures .0) (n .result) (n .ensures))
           (tot .ensures .0);
-      rows-stand = r .ensures
-          ∙ ap (λ (l : List ℤ). written l (s .args .room .now))
-          (rows-are t (s .args .mode) (s .args .k) (won .result .list) (won .result .count) (s .pre .0 .checked) (s .pre .0 .few) (won .ensures .0) (n .result) (n .ensures));
+      rows-stand = rw (rows-are t (s .args .mode) (s .args .k) (won .result .list) (won .result .count) (s .pre .0 .checked) (s .pre .0 .few) (won .ensures .0) (n .result) (n .ensures)) at
+          (r .ensures);
       cleared = cleared-is workLength (r .last .1 .1 .0) _ long (c .before .before .clear .ensures);
     }
 

@@ -4,13 +4,13 @@ use mathlib.Core.List.{List, [], _++_, append-nil}
 use Prim.Native.Nat.{ℕ, suc, _≤_, _<_, _+_, _-_}
 use native.Mathlib.Omega.{arith}
 use lib.IntN.{ℤ, pos}
-use lib.ListN.{length, getD, take, drop, set, length-set, length-drop, drop-of-length-le}
-use lib.Seq.{paste, paste-zero, paste-suc, length-take-le, take-all}
+use lib.ListN.{length, getD, take, drop, set, length-set, drop-of-length-le}
+use lib.Seq.{paste, paste-zero, paste-suc, take-all}
 use mir.Syntax.{w64}
 use mir.ValLaws.{toZ-ofZ}
 use Rattle.lists.specs.Parts.{written}
 use Rattle.lists.specs.Laws.Write.{length-written, written-front}
-use Rattle.report.specs.Row.{headOf, arcPlaces, rowOf, length-places}
+use Rattle.report.specs.Row.{headOf, arcPlaces, rowOf, walk-length, length-places}
 use borrow.Author.Needs.{needs}
 use Rattle.report.proofs.put_row.Statement.{statement}
 use Rattle.report.proofs.put_row.Tie as tie
@@ -53,9 +53,6 @@ finish walk slack credit test start n e row₀ row i f c g p h =
     ∙ append-nil (take 5 row₀ ++ t)
     ∙ ap (λ (a : List ℤ). a ++ t) front
     ∙ ap₂ (λ (m j : ℕ). headOf slack credit test start m ++ arcPlaces (j - 5) walk) c w
-
-walk-length : (w : List ℕ) (at n : ℕ) → at + n ≤ length w → length (take n (drop at w)) ≡ n
-walk-length w at n h = length-take-le n (drop at w) (omega (arith, length-drop at w))
 
 abbrev Inv-loop : tie.InvT-loop
 Inv-loop work at row₀ n i₀ row i = Put (take n (drop at work)) row₀ row i

@@ -21,13 +21,13 @@ use Rattle.report.proofs.row_of.Tie as tie
 
 -- the walk of the candidate's path stands in the work area
 traced : (c : tie.After-trace)
-    → Walked (c .before .before .before .before .before .before .before .args .work .now) (testData (c .before .before .before .before .before .before .before .args .table .now) (c .before .before .before .before .before .before .before .args .c .test)) (c .before .before .before .before .before .before .before .args .c .serial) walkPlace (c .trace .last .0) (c .trace .result)
+    → let s = c .before .before .before .before .before .before .before .args in Walked (s .work .now) (testData (s .table .now) (s .c .test)) (s .c .serial) walkPlace (c .trace .last .0) (c .trace .result)
 traced c =
     rw (c .before .count2 .ensures, c .before .before .before .of-test .ensures, c .before .before .before .before .count .ensures) at (c .trace .ensures)
 
 -- its start
 started : (c : tie.After-start-of)
-    → c .start-of .result ≡ start (structure (c .before .before .before .before .before .before .before .before .before .before .before .args .table .now)) (pathIn (c .before .before .before .before .before .before .before .before .before .before .before .args .table .now) (c .before .before .before .before .before .before .before .before .before .before .before .args .mode) (c .before .before .before .before .before .before .before .before .before .before .before .args .c))
+    → let s = c .before .before .before .before .before .before .before .before .before .before .before .args in c .start-of .result ≡ start (structure (s .table .now)) (pathIn (s .table .now) (s .mode) (s .c))
 started c =
     let s = c .before .before .before .before .before .before .before .before .before .before .before in
     c .start-of .ensures ∙ start-is (s .args .table .now) (s .args .mode) (s .args .work .now) (s .args .c) (s .pre .standing) (s .pre .candidate) _ _ (traced (c .before .before .before .before))
@@ -52,9 +52,9 @@ trace-requires c κs =
 
 start-of-requires : tie.Need-start-of-requires
 start-of-requires c κs =
-    let s = c .before .before .before .before .before .before .before .before .before .before in
-    let t = s .args .table .now in
     let d = c .before .before .before in
+    let s = d .before .before .before .before .before .before .before in
+    let t = s .args .table .now in
     let n : d .trace .result ≡ length (pathIn t (s .args .mode) (s .args .c) .walk) = traced-count t (s .args .mode) (s .args .work .now) (s .args .c) (s .pre .standing) (s .pre .candidate) _ _ (traced d) in
     let some = arcs-some t (s .args .mode) (s .args .work .now) (s .args .c) (s .pre .standing) (s .pre .candidate) in
     let few = arcs-few t (s .args .mode) (s .args .work .now) (s .args .c) (s .pre .standing) (s .pre .candidate) in
@@ -67,11 +67,11 @@ of-test-requires-2 c κs = search needs
 
 credit-from-requires : tie.Need-credit-from-requires
 credit-from-requires c κs =
-    let s = c .before .before .before .before .before .before .before .before .before .before .before .before .before in
-    let t = s .args .table .now in
     let d = c .before .before .before .before .before .before in
+    let s = d .before .before .before .before .before .before .before in
+    let t = s .args .table .now in
     let h = s .pre .standing .prepared .clocked .ready .checked in
-    rw (c .of-test2 .ensures, c .before .before .before .before .before .before .before .before .before .before .count .ensures, started (c .before .before))
+    rw (c .of-test2 .ensures, d .before .before .before .before .count .ensures, started (c .before .before))
     (record {
       clocked = still-prepared t (s .args .mode) (s .args .work .now) (s .args .c) (s .pre .standing) (s .pre .candidate) _ _ (traced d) (d .trace .kept .0) .clocked;
       clock = test-clock t h (s .args .c .test) (s .pre .standing .test);
@@ -80,7 +80,8 @@ credit-from-requires c κs =
 
 -- its credit
 credited : (c : tie.After-credit-from)
-    → Credited (c .before .before .before .before .before .before .before .before .before .before .before .before .before .before .args .table .now) (testClock (c .before .before .before .before .before .before .before .before .before .before .before .before .before .before .args .table .now) (c .before .before .before .before .before .before .before .before .before .before .before .before .before .before .args .c .test)) (start (structure (c .before .before .before .before .before .before .before .before .before .before .before .before .before .before .args .table .now)) (pathIn (c .before .before .before .before .before .before .before .before .before .before .before .before .before .before .args .table .now) (c .before .before .before .before .before .before .before .before .before .before .before .before .before .before .args .mode) (c .before .before .before .before .before .before .before .before .before .before .before .before .before .before .args .c))) (c .credit-from .result)
+    → let s = c .before .before .before .before .before .before .before .before .before .before .before .before .before .before .args in
+    Credited (s .table .now) (testClock (s .table .now) (s .c .test)) (start (structure (s .table .now)) (pathIn (s .table .now) (s .mode) (s .c))) (c .credit-from .result)
 credited c =
     rw (c .before .of-test2 .ensures, c .before .before .before .before .before .before .before .before .before .before .before .count .ensures, started (c .before .before .before)) at (c .credit-from .ensures)
 
@@ -92,10 +93,10 @@ wide-requires-2 c κs = search needs
 
 put-row-requires : tie.Need-put-row-requires
 put-row-requires c κs =
-    let s = c .before .before .before .before .before .before .before .before .before .before .before .before .before .before .before .before .before .before .before in
-    let t = s .args .table .now in
-    let d = c .before .before .before .before .before .before .before .before .before .before .before .before in
     let k = c .before .before .before .before .before in
+    let d = k .before .before .before .before .before .before .before in
+    let s = d .before .before .before .before .before .before .before in
+    let t = s .args .table .now in
     rw (c .before .before .before .before .wide .ensures, c .before .before .before .wide2 .ensures, started (k .before .before .before))
     (puts t (s .args .mode) (s .args .work .now) (s .args .c) (s .pre .standing) (s .pre .candidate) _ _ (traced d) (d .trace .kept .0) _ (credited k) _ (s .pre .room))
 
@@ -107,10 +108,10 @@ same-length-2 c = search needs
 
 returns : tie.Need-returns
 returns c =
-    let s = c .before .before .before .before .before .before .before .before .before .before .before .before .before .before .before .before .before .before .before .before .before in
-    let t = s .args .table .now in
-    let d = c .before .before .before .before .before .before .before .before .before .before .before .before .before .before in
     let k = c .before .before .before .before .before .before .before in
+    let d = k .before .before .before .before .before .before .before in
+    let s = d .before .before .before .before .before .before .before in
+    let t = s .args .table .now in
     let e : c .before .put-row .last .1 .1 .1 .0 ≡ rowOf (length (s .args .row .now) - 5) (toZ w64 (ofZ w64 (s .args .c .slack))) (k .credit-from .result) (s .args .c .test) (c .before .before .before .before .before .before .wide .result) (take (c .before .before .before .before .before .wide2 .result) (drop walkPlace (d .trace .last .0))) = c .before .put-row .ensures in
     let z : toZ w64 (ofZ w64 (s .args .c .slack)) ≡ s .args .c .slack = toZ-ofZ w64 (s .args .c .slack) (record { sfits = c .before .before .before .before .struct-told .given .0 .1 }) in
     let f = rw (z, c .before .before .before .before .before .before .wide .ensures, c .before .before .before .before .before .wide2 .ensures, started (k .before .before .before)) at e in (

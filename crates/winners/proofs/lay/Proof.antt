@@ -3,7 +3,7 @@
 use mathlib.Core.Path.{_≡_, _∙_}
 use borrow.Author.Needs.{needs}
 use Rattle.timing.specs.Table.{pinCount}
-use Rattle.winners.specs.Laws.Prepared.{sown-ready, sown-stands}
+use Rattle.winners.specs.Laws.Prepared.{laid-ready, sown-stands}
 use Rattle.winners.proofs.lay.Statement.{statement}
 use Rattle.winners.proofs.lay.Tie as tie
 
@@ -14,7 +14,7 @@ pin-count-requires : tie.Need-pin-count-requires
 pin-count-requires c κs = search needs
 
 table-requires : tie.Need-table-requires
-table-requires c κs = rw (c .pin-count .ensures) (sown-ready _ _ _ _ (c .before .before .before .before .seed .ensures))
+table-requires c κs = rw (c .pin-count .ensures) (let k = c .before .before .before .before .seed .ensures in laid-ready _ _ _ _ (k .prepared) (k .laid))
 
 same-length : tie.Need-same-length
 same-length c = search needs

@@ -6,7 +6,7 @@ use borrow.Author.Needs.{needs}
 use Rattle.timing.specs.Table.{pinCount}
 use Rattle.engine.specs.Asked.{Counted}
 use Rattle.winners.specs.Standing.{Prepared}
-use Rattle.winners.specs.Laws.Prepared.{sown-ready}
+use Rattle.winners.specs.Laws.Prepared.{laid-ready}
 use Rattle.winners.specs.Laws.Totals.{total-none, counts-prepared, counts-total}
 use Rattle.winners.proofs.total.Statement.{statement}
 use Rattle.winners.proofs.total.Tie as tie
@@ -35,7 +35,7 @@ pin-count-requires : tie.Need-pin-count-requires
 pin-count-requires c κs = search needs
 
 counts-requires : tie.Need-counts-requires
-counts-requires c κs = rw (c .pin-count .ensures) (sown-ready _ _ _ _ (c .before .before .before .before .seed .ensures))
+counts-requires c κs = rw (c .pin-count .ensures) (let k = c .before .before .before .before .seed .ensures in laid-ready _ _ _ _ (k .prepared) (k .laid))
 
 add-counts-requires : tie.Need-add-counts-requires
 add-counts-requires c κs = prepared (c .before .before .before) .clocked .ready

@@ -10,7 +10,7 @@ use lib.IntN.{ℤ, subℕ}
 use Rattle.lists.specs.Parts.{below}
 use Rattle.lists.specs.Laws.Member.{In, length-each, into-each, into-below}
 use Rattle.lists.specs.Laws.Column.{column-length}
-use Rattle.timing.specs.Table.{Table, pinCount, testData}
+use Rattle.timing.specs.Table.{Table, pinCount, testCount, testData}
 use Rattle.timing.specs.Structure.{pins, tests, clockPin, dataPin, structure, times}
 use Rattle.timing.specs.Paths.{walks}
 use Rattle.timing.specs.Value.{value, rankedWalks, weightOf, seedOf, raise, lower}
@@ -20,31 +20,54 @@ use Rattle.timing.specs.Laws.Columns.{pins-is, tests-is, data-is}
 use Rattle.timing.specs.Laws.Valued.{raise-most, lower-most}
 use Rattle.worst.specs.Candidates.{bestWalks, candidateAt, candidatesOf, pathOf}
 use Rattle.worst.specs.Laws.Merged.{candidate-value, candidate-walk}
+use Rattle.clocks.specs.Clocked.{Tested}
 use Rattle.clocks.specs.Known.{test-data}
 use Rattle.engine.specs.Area.{plan}
 use Rattle.engine.specs.Entries.{entries, walkBy}
+use Rattle.engine.specs.Laid.{Laid}
+use Rattle.engine.specs.Steps.{Made}
 use Rattle.engine.specs.Asked.{At, AtRank, Valued}
 use Rattle.engine.specs.Sorting.{weighing}
 use Rattle.engine.specs.Laws.Best.{is-other}
 use Rattle.engine.specs.Laws.Traced.{entries-walks}
-use Rattle.winners.specs.Standing.{level, testSeed, Standing}
-use Rattle.winners.specs.Winning.{HasRank, candidateOf}
+use Rattle.winners.specs.Standing.{level, testSeed, Prepared, Standing}
+use Rattle.winners.specs.Winning.{HasRank, recordOf, candidateOf}
 use Rattle.winners.specs.Laws.Totals.{data-other}
+
+-- ---- the row of a test's data pin, whatever seeds it is made from
+
+module _ (t : Table) (mode j : ℕ) (l : j < testCount t) (seed : ℕ → ℕ) (w : List ℕ) (P : Prepared t mode w)
+    (L : Laid (structure t) (weighing t mode) seed (plan w)) (M : Made w (pinCount t)) where
+  pub data-inside : testData t j < pins (structure t)
+  data-inside = rw (pins-is t) (test-data t (P .clocked .ready .checked) j l)
+
+  pub row-at : At w (testData t j)
+  row-at =
+      let h = P .clocked .ready .checked in
+      record {
+        size = pinCount t;
+        made = M;
+        pin = test-data t h j l;
+        other = rw (L .by-seeds .other (testData t j) data-inside (data-other t h j l)) (omega arith);
+      }
+
+  -- it has as many entries as there are walks, or 16
+  pub row-count : length (entries (plan w) (testData t j)) ≡ length (take 16 (rankedWalks (structure t) (weighing t mode) seed (dataPin (structure t) j)))
+  row-count =
+      let s = structure t in
+      let v = testData t j in
+      let o = is-other s (weighing t mode) seed (plan w) L v data-inside (data-other t (P .clocked .ready .checked) j l) in
+      sym (length-each (walkBy (plan w) (suc v)) (entries (plan w) v))
+      ∙ ap length (entries-walks s (weighing t mode) seed (plan w) L v data-inside o)
+      ∙ ap (λ (v : ℕ). length (take 16 (rankedWalks s (weighing t mode) seed v))) (sym (data-is t j l))
 
 module _ (t : Table) (mode j : ℕ) (w : List ℕ) (S : Standing t mode j w) where
   inside : testData t j < pins (structure t)
-  inside = rw (pins-is t) (test-data t (S .prepared .clocked .ready .checked) j (S .test))
+  inside = data-inside t mode j (S .test) (testSeed t mode j) w (S .prepared) (S .laid) (S .made)
 
   -- the data pin of the test has a row
   pub data-at : At w (testData t j)
-  data-at =
-      let h = S .prepared .clocked .ready .checked in
-      record {
-        size = pinCount t;
-        made = S .made;
-        pin = test-data t h j (S .test);
-        other = rw (S .laid .by-seeds .other (testData t j) inside (data-other t h j (S .test))) (omega arith);
-      }
+  data-at = row-at t mode j (S .test) (testSeed t mode j) w (S .prepared) (S .laid) (S .made)
 
   -- it has as many entries as the test has candidates
   pub found : length (entries (plan w) (testData t j)) ≡ length (candidatesOf (modeOf mode) level (structure t) (times t) j)
@@ -53,11 +76,7 @@ module _ (t : Table) (mode j : ℕ) (w : List ℕ) (S : Standing t mode j w) whe
       let s = structure t in
       let x = times t in
       let m = modeOf mode in
-      let v = testData t j in
-      let o = is-other s (weighing t mode) (testSeed t mode j) (plan w) (S .laid) v inside (data-other t (S .prepared .clocked .ready .checked) j (S .test)) in
-      sym (length-each (walkBy (plan w) (suc v)) (entries (plan w) v))
-      ∙ ap length (entries-walks s (weighing t mode) (testSeed t mode j) (plan w) (S .laid) v inside o)
-      ∙ ap (λ (v : ℕ). length (take 16 (rankedWalks s (weighing t mode) (testSeed t mode j) v))) (sym (data-is t j (S .test)))
+      row-count t mode j (S .test) (testSeed t mode j) w (S .prepared) (S .laid) (S .made)
       ∙ sym (column-length (candidateAt m level s x j) (length (bestWalks m level s x j)))
 
 -- ---- one candidate
@@ -73,7 +92,7 @@ module _ (t : Table) (mode j i : ℕ) (w : List ℕ) (H : HasRank t mode j i w) 
   unfolding candidatesOf
   ranked = rw (column-length (candidateAt (modeOf mode) level (structure t) (times t) j) (length (bestWalks (modeOf mode) level (structure t) (times t) j))) at real
 
-  pub test-place : j < tests (structure t)
+  test-place : j < tests (structure t)
   test-place = rw (tests-is t) (H .standing .test)
 
   module _ (y : ℕ) (is : Valued w (testData t j) i y) where
@@ -111,8 +130,7 @@ module _ (t : Table) (mode j i : ℕ) (w : List ℕ) (H : HasRank t mode j i w) 
         rw best (S .laid .small (dataPin s j) (getD (bestWalks (modeOf mode) level s (times t) j) i []) d walk-in)
 
     -- and gives the slack
-    pub candidate-is : record { slack = subℕ (y + raise (modeOf mode) (structure t) (times t) j) (lower (modeOf mode) level (structure t) (times t) j); test = j; serial = i }
-        ≡ candidateOf t mode j i
+    pub candidate-is : recordOf t mode j y i ≡ candidateOf t mode j i
     unfolding candidateAt
     candidate-is =
         let s = structure t in
@@ -125,14 +143,20 @@ module _ (t : Table) (mode j i : ℕ) (w : List ℕ) (H : HasRank t mode j i w) 
         λ l q k. rw (← q) (candidate-value s (a .sound) x (a .ranged) m j i test-place (rw (← q) at k)) in
         ap (λ (z : ℤ). record { slack = z; test = j; serial = i }) (rw best (sym (e level (accepted-level t (H .standing .prepared .clocked .ready .checked)) ranked)))
 
+-- ---- what a test adds and takes
+
+module _ (t : Table) (mode j : ℕ) (w : List ℕ) (T : Tested t w j) where
+  place : j < tests (structure t)
+  place = rw (tests-is t) (T .inside)
+
   pub raise-small : raise (modeOf mode) (structure t) (times t) j ≤ 257000000
   raise-small =
-      let a = accepted t (H .standing .prepared .clocked .ready .checked) in
-      raise-most (structure t) (a .sound) (times t) (a .ranged) (modeOf mode) j test-place
+      let a = accepted t (T .clocked .ready .checked) in
+      raise-most (structure t) (a .sound) (times t) (a .ranged) (modeOf mode) j place
 
   pub lower-small : lower (modeOf mode) level (structure t) (times t) j ≤ 512000000
   lower-small =
-      let h = H .standing .prepared .clocked .ready .checked in
+      let h = T .clocked .ready .checked in
       let a = accepted t h in
       subst (λ (f : ℕ → ℕ). lower (modeOf mode) f (structure t) (times t) j ≤ 512000000) (accepted-level t h)
-      (lower-most (structure t) (a .sound) (times t) (a .ranged) (modeOf mode) j test-place)
+      (lower-most (structure t) (a .sound) (times t) (a .ranged) (modeOf mode) j place)

@@ -26,7 +26,7 @@ use Rattle.winners.specs.Standing.{level}
 use Rattle.winners.specs.Winning.{candidateOf, nobody, Full, HoldsBelow, AllWinners}
 
 -- the last of a list stands at the last of its places
-last-at : {A : Type 0} (x d : A) (l : List A) (n : ℕ) → length l ≡ suc n → last x l ≡ getD l n d
+pub last-at : {A : Type 0} (x d : A) (l : List A) (n : ℕ) → length l ≡ suc n → last x l ≡ getD l n d
 unfolding last
 last-at x d [] n e = absurd (omega arith)
 last-at x d (y ∷ []) zero e = refl
@@ -34,7 +34,7 @@ last-at x d (y ∷ []) (suc n) e = absurd (omega arith)
 last-at x d (y ∷ z ∷ l) zero e = absurd (omega arith)
 last-at x d (y ∷ z ∷ l) (suc n) e = last-at y d (z ∷ l) n (omega arith)
 
-below-one : (j : ℕ) → below j ++ (j ∷ []) ≡ below (j + 1)
+pub below-one : (j : ℕ) → below j ++ (j ∷ []) ≡ below (j + 1)
 unfolding below
 below-one j = rw add-one
 
