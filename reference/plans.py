@@ -218,3 +218,100 @@ def random_plan(seed, pins=None):
             plan.test(chance.choice(clocks), chance.choice(data),
                       chance.randint(0, shape["delay"]), chance.randint(0, shape["delay"]))
     return plan
+
+
+# ---- designs at the limits, and clock trees of one form
+
+def clock_chain(levels, root=(0, 0), step=(0, 0)):
+    """R and so many B behind each other, each arc of this range; pin 0 is R, pin n the n-th B."""
+    plan = Plan()
+    plan.pin("R", *root)
+    for level in range(levels):
+        plan.arc(level, plan.pin("B"), *step)
+    return plan
+
+
+def deep_clock_plan(levels, depths, step=(1, 3)):
+    """A chain of B with a K hung at each of these depths, one D that all K drive, and a test at each K."""
+    plan = clock_chain(levels, (2, 5), step)
+    flops = [plan.pin("K") for _ in depths]
+    data = plan.pin("D")
+    for flop, depth in zip(flops, depths):
+        plan.arc(depth, flop, *step)
+        plan.arc(flop, data, 10, 20)
+    for flop in flops[:64]:
+        plan.test(flop, data, 4, 2)
+    return plan
+
+
+def flat_clock_plan(flops):
+    """So many K on R, with ranges that repeat, each driving the next one's D; some tests share a D."""
+    plan = Plan(period=30)
+    plan.pin("R", 1, 9)
+    for flop in range(flops):
+        plan.arc(0, plan.pin("K"), flop % 3, 3 + flop % 5)
+    for flop in range(flops):
+        data = plan.pin("D")
+        plan.arc(1 + flop, data, 2, 5)
+        plan.arc(1 + (flop + 1) % flops, data, 3, 5)
+        if flop < 32:
+            plan.test(1 + flop, data, 1, 1)
+            plan.test(1 + flop // 2, data, 1, 1)
+    return plan
+
+
+def longest_plan(flops_apart=False):
+    """Delays and times at their limit along the longest chain that 256 pins allow: of data pins, or of clock pins up to two K far apart."""
+    if flops_apart:
+        plan = clock_chain(251, (0, 1_000_000), (0, 1_000_000))
+        near, far, data = plan.pin("K"), plan.pin("K"), plan.pin("D")
+        plan.arc(0, near, 0, 1_000_000)
+        plan.arc(251, far, 1_000_000, 1_000_000)
+        for flop in (near, far):
+            plan.arc(flop, data, 0, 1_000_000)
+            plan.test(flop, data, 1_000_000, 1_000_000)
+        return plan
+    plan = small_clock((0, 1_000_000))
+    plan.pins[2] = ("I", 1_000_000, 1_000_000)
+    plan.period = 1
+    for pin in range(2, 255):
+        plan.arc(pin, plan.pin("D"), 1_000_000, 1_000_000)
+    plan.test(1, 255, 1_000_000, 0)
+    return plan
+
+
+def full_plan():
+    """256 pins, 1,024 arcs and 64 tests, small numbers: R, 20 B in pairs, 24 K, 16 I, the rest D."""
+    plan = Plan(period=90)
+    plan.pin("R", 3, 7)
+    for buffer in range(20):
+        plan.arc(max(0, buffer - 1), plan.pin("B"), buffer % 4, 4 + buffer % 3)
+    for flop in range(24):
+        plan.arc(flop % 21, plan.pin("K"), 1, 2 + flop % 4)
+    for start in range(16):
+        plan.pin("I", start, start + 5)
+    while len(plan.pins) < 256:
+        data = plan.pin("D")
+        plan.arc(21 + data % 40, data, data % 7, 7 + data % 5)
+    for extra in range(1024 - len(plan.arcs)):
+        data = 62 + extra % 194
+        plan.arc(data - 1 - extra % (data - 40 if data < 80 else 40), data, extra % 6, 6 + extra % 9)
+    for test in range(64):
+        plan.test(21 + test % 24, 255 - test % 50, test % 5, test % 3)
+    return plan
+
+
+def grown_plan(seed, pins, arcs, tests):
+    """A random design with so many pins, and with arcs into data pins and tests added up to these numbers."""
+    chance = random.Random(seed)
+    plan = random_plan(seed, pins)
+    starts = [p for p, pin in enumerate(plan.pins) if pin[0] in "KID"]
+    clocks = [p for p, pin in enumerate(plan.pins) if pin[0] == "K"]
+    data = [p for p, pin in enumerate(plan.pins) if pin[0] == "D"]
+    limit = max(late for _, _, _, late in plan.arcs)
+    while len(plan.arcs) < arcs:
+        end = chance.choice(data)
+        plan.arc(chance.choice([p for p in starts if p < end]), end, *random_range(chance, limit))
+    while len(plan.tests) < tests:
+        plan.test(chance.choice(clocks), chance.choice(data), chance.randint(0, limit), chance.randint(0, limit))
+    return plan

@@ -1,4 +1,4 @@
-"""What the makers of stored cases share: numbers as bytes, a sum over what is left in lent memory, writing and checking the stored files."""
+"""What the makers and the tests of stored cases share: numbers as bytes, a sum over what is left in lent memory, writing, checking and reading the stored files."""
 
 import sys
 from pathlib import Path
@@ -62,3 +62,27 @@ def keep(crate, data_name, make):
         path.parent.mkdir(parents=True, exist_ok=True)
         path.write_bytes(content)
     print(f"{crate}: {printed.count(10)} cases, {len(data)} bytes")
+
+
+def records_of(crate, name):
+    """The stored records of a test program, each as its bytes."""
+    data = (ROOT / "crates" / crate / "data" / name).read_bytes()
+    count, at = int.from_bytes(data[:4], "little"), 4
+    for _ in range(count):
+        length = int.from_bytes(data[at:at + 4], "little")
+        yield data[at + 4:at + 4 + length]
+        at += 4 + length
+
+
+def numbers_in(record):
+    """The numbers in a record: one byte to 250; else 251 and two bytes, or 252 and four, the lowest first."""
+    at = 0
+    while at < len(record):
+        width = {251: 2, 252: 4}.get(record[at], 0)
+        yield int.from_bytes(record[at + 1:at + 1 + width], "little") if width else record[at]
+        at += 1 + width
+
+
+def lines_of(crate):
+    """The expected lines, each as its fields."""
+    return [line.split("\t") for line in (ROOT / "crates" / crate / "stdout").read_text("ascii").splitlines()]

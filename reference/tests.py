@@ -19,9 +19,10 @@ import tests_list
 import tests_paths
 import tests_reading
 import tests_sheet
+import tests_stored
 
 GROUPS = (tests_sheet.GROUPS + tests_reading.GROUPS + tests_asking.GROUPS
-          + tests_paths.GROUPS + tests_list.GROUPS + tests_cases.GROUPS)
+          + tests_paths.GROUPS + tests_list.GROUPS + tests_cases.GROUPS + tests_stored.GROUPS)
 
 
 class Tally:
