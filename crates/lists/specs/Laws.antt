@@ -12,6 +12,7 @@ pub mod Cut
 pub mod Write
 pub mod Integer
 pub mod Ranking
+pub mod Exchange
 pub mod Top
 pub mod Pieces
 pub mod Ranks

@@ -10,7 +10,7 @@ use Prim.Native.Nat.{ℕ, suc, _+_, _-_, _≤_, _<_}
 use native.Mathlib.Nat.{not-suc-le-zero}
 use native.Mathlib.Omega.{arith}
 use lib.ListN.{length, getD, take, drop, length-take}
-use lib.Seq.{getD-take, getD-drop, take-take}
+use lib.Seq.{getD-take, getD-drop}
 use lib.IntN.{ℤ}
 use Rattle.lists.specs.Parts.{last}
 use Rattle.lists.specs.Laws.Member.{In}
@@ -32,16 +32,15 @@ use Rattle.worst.specs.Candidates.{testWalks, bestWalks, candidatesOf, pathOf}
 use Rattle.worst.specs.Laws.Merged.{in-candidates, candidate-walk}
 use Rattle.clocks.specs.Area.{freeAt}
 use Rattle.clocks.specs.Clocked.{Credited}
-use Rattle.clocks.specs.Kept.{clocked-same}
 use Rattle.clocks.specs.Known.{test-clock, test-data}
 use Rattle.clocks.specs.Small.{credit-most}
 use Rattle.engine.specs.Area.{plan}
 use Rattle.engine.specs.Asked.{AtRank, Room, Walked}
 use Rattle.engine.specs.Sorting.{weighing}
-use Rattle.engine.specs.Laws.Kept.{arcs-kept}
 use Rattle.engine.specs.Laws.Traced.{entries-count}
+use Rattle.winners.specs.Laws.Prepared.{standing-kept}
 use Rattle.winners.specs.Laws.Entered.{data-at}
-use Rattle.winners.specs.Standing.{level, testSeed, Prepared, Standing}
+use Rattle.winners.specs.Standing.{level, testSeed, Standing}
 use Rattle.report.specs.Row.{signed, arcPlaces, rowOf, Puts}
 
 -- where a walk is written: behind what the clock side keeps
@@ -171,18 +170,9 @@ module _ (t : Table) (mode : ℕ) (w : List ℕ) (c : Candidate) (S : Standing t
     pub traced-at : (j : ℕ) → j < n → getD v (walkPlace + j) 0 ≡ getD (p .walk) j 0
     traced-at j l = sym (getD-drop walkPlace v j 0) ∙ sym (getD-take n (drop walkPlace v) j 0 l) ∙ ap (λ (a : List ℕ). getD a j 0) traced-is
 
-    -- the clock side and the arcs still stand
-    pub still-prepared : length v ≡ length w → Prepared t mode v
-    still-prepared long =
-        record {
-          clocked = clocked-same t w v long
-              (λ j h l.
-              sym (getD-take walkPlace v j 0 l) ∙ ap (λ (a : List ℕ). getD a j 0) (W .front) ∙ getD-take walkPlace w j 0 l)
-              (S .prepared .clocked);
-          by-arcs = arcs-kept s (weighing t mode) v w (rw (pins-is t) (accepted t fine .header .few-pins))
-              (sym (take-take 5377 walkPlace v (omega arith)) ∙ ap (take 5377) (W .front) ∙ take-take 5377 walkPlace w (omega arith))
-              (S .prepared .by-arcs);
-        }
+    -- the test still stands
+    pub still-standing : length v ≡ length w → Standing t mode (c .test) v
+    still-standing long = standing-kept t mode (c .test) w v long (W .front) S
 
     -- the last arc read backwards leaves the start
     pub start-is : arcFrom t (getD v (walkPlace + (n - 1)) 0) ≡ start s p

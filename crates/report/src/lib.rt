@@ -10,10 +10,10 @@ ghost use lib.ListN.{length, getD, set, take, drop, replicate};
 ghost use lib.IntN.{pos};
 ghost use Rattle.lists.specs.Parts.{written};
 ghost use Rattle.timing.specs.Limits.{mostPins, mostK, workLength};
-ghost use Rattle.timing.specs.Table.{arcFrom};
+ghost use Rattle.timing.specs.Table.{testCount, arcFrom};
 ghost use Rattle.timing.specs.Refusals.{checkedOf};
 ghost use Rattle.timing.specs.Asked.{askingBad, roomBad, askingFault, answer, roomAfter, workAfter};
-ghost use Rattle.winners.specs.Standing.{Prepared};
+ghost use Rattle.winners.specs.Standing.{Prepared, Standing};
 ghost use Rattle.report.specs.Rowed.{walkPlace, rowIn, Rowed};
 ghost use Rattle.report.specs.Writing.{Writes, rowsIn};
 ghost use Rattle.report.specs.Answered.{Granted, Answers};
@@ -113,7 +113,17 @@ fn asking_fine(table: &[u32], mode: u32, k: usize, room: usize, work: usize) -> 
 
 // ---- the rows
 
-// The rows of the first n of a list of candidates, one behind another at the front of the room. For each its test is laid again.
+// The rows of test j are laid, unless they stand already.
+fn stand(table: &[u32], mode: u32, work: &mut [u64], j: usize, standing: usize)
+    requires { ⌜ Prepared (now table) mode (now work) × (j < testCount (now table)) × (standing ≡ j → Standing (now table) mode j (now work)) ⌝ }
+    ensures { λ _. ⌜ Standing (now (table .entry)) mode j (now (work .exit)) ⌝ }
+{
+    if standing != j {
+        winners::lay(table, mode, work, j);
+    }
+}
+
+// The rows of the first n of a list of candidates, one behind another at the front of the room. For each its test is laid again, unless it stands.
 fn rows(
     table: &[u32],
     mode: u32,
@@ -126,11 +136,14 @@ fn rows(
     ensures { λ _. ⌜ now (room .exit) ≡ written (rowsIn (now (table .entry)) mode (take n list)) (now (room .entry)) ⌝ }
 {
     let size = tables::pin_count(table) + 5;
+    let mut standing = Design::TESTS;
     let mut i = 0;
     let mut at = 0;
     while i < n {
         let c = list[i];
-        winners::lay(table, mode, work, count(c.test));
+        let j = count(c.test);
+        stand(table, mode, work, j, standing);
+        standing = j;
         let end = at + size;
         row_of(table, mode, work, c, &mut room[at..end]);
         at = end;
@@ -141,7 +154,7 @@ fn rows(
 // The row of a candidate of the test that stands: its walk is traced into the work area, and its credit worked out again.
 fn row_of(table: &[u32], mode: u32, work: &mut [u64], c: Candidate, row: &mut [i64])
     requires { ⌜ Rowed (now table) mode (now work) c (length (now row)) ⌝ }
-    ensures { λ _. ⌜ (now (row .exit) ≡ rowIn (now (table .entry)) mode c) × Prepared (now (table .entry)) mode (now (work .exit)) ⌝ }
+    ensures { λ _. ⌜ (now (row .exit) ≡ rowIn (now (table .entry)) mode c) × Standing (now (table .entry)) mode (c .test) (now (work .exit)) ⌝ }
 {
     let j = count(c.test);
     let end = tables::of_test(table, 1, j);

@@ -4,5 +4,6 @@ pub mod Totals
 pub mod Signed
 pub mod Entered
 pub mod Listed
+pub mod Queue
 pub mod Least
 pub mod Bounded

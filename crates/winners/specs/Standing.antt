@@ -1,8 +1,8 @@
 -- What stands in the work area while the tests are gone through: the clock side and the sorted arcs of the table, and the rows of one test.
 -- Assumes nothing.
 use mathlib.Core.List.{List}
-use Prim.Native.Nat.{ℕ, _<_}
-use Rattle.timing.specs.Table.{Table, pinCount, testCount}
+use Prim.Native.Nat.{ℕ, _+_, _<_}
+use Rattle.timing.specs.Table.{Table, testCount, testData}
 use Rattle.timing.specs.Structure.{structure, times, clockPin}
 use Rattle.timing.specs.Rows.{modeOf}
 use Rattle.timing.specs.Value.{seedOf}
@@ -25,9 +25,9 @@ pub record Prepared (t : Table) (mode : ℕ) (w : List ℕ) : Type 0 where
   pub clocked : Clocked t w
   pub by-arcs : Arcs (structure t) (weighing t mode) (plan w)
 
--- and the seeds and the rows are those of test j
+-- and the seeds are those of test j, and the rows up to its data pin
 pub record Standing (t : Table) (mode j : ℕ) (w : List ℕ) : Type 0 where
   pub prepared : Prepared t mode w
   pub test : j < testCount t
   pub laid : Laid (structure t) (weighing t mode) (testSeed t mode j) (plan w)
-  pub made : Made w (pinCount t)
+  pub made : Made w (testData t j + 1)

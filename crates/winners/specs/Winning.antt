@@ -2,12 +2,13 @@
 -- Assumes nothing.
 use mathlib.Core.Path.{_≡_}
 use mathlib.Core.Bool.{false}
-use mathlib.Core.List.{List}
+use mathlib.Core.List.{List, [], _∷_, _++_}
 use Prim.Native.Nat.{ℕ, _+_, _≤_, _<_}
 use lib.IntN.{pos, subℕ}
-use lib.ListN.{length, getD}
+use lib.ListN.{length, getD, take}
 use Rattle.lists.specs.Parts.{below}
 use Rattle.lists.specs.Laws.Member.{In}
+use Rattle.lists.specs.Laws.Ranking.{Perm}
 use Rattle.timing.specs.Limits.{mostK}
 use Rattle.timing.specs.Table.{Table, testCount, testData}
 use Rattle.timing.specs.Structure.{tests, clockPin, dataPin, structure, times}
@@ -116,10 +117,25 @@ pub record Full (list : List Candidate) (count : ℕ) (c : Candidate) : Type 0 w
   pub all : count ≡ mostK
   pub before : greater (getD list 15 nobody) c ≡ false
 
--- a list of 16 places, as many of them counted, holds the winners of the tests below j
-abbrev pub HoldsBelow : Table → ℕ → ℕ → List Candidate → ℕ → Type 0
-HoldsBelow t mode j list count = Holds mostK list count (rankedList (modeOf mode) level (structure t) (times t) mostK (below j))
+-- a list of 16 places, of which no more are counted
+pub record Sized (list : List Candidate) (count : ℕ) : Type 0 where
+  pub places : length list ≡ mostK
+  pub few : count ≤ mostK
 
--- and of all tests
+-- a list of 16 places, as many of them counted, holds the winners of the tests js
+abbrev pub HoldsOf : Table → ℕ → List ℕ → List Candidate → ℕ → Type 0
+HoldsOf t mode js list count = Holds mostK list count (rankedList (modeOf mode) level (structure t) (times t) mostK js)
+
+-- the candidates of test j have been added to a list, whatever tests' winners it holds
+pub record Adds (t : Table) (mode j : ℕ) (list : List Candidate) (count : ℕ) (new : List Candidate) (more : ℕ) : Type 0 where
+  pub sized : Sized new more
+  pub adds : (js : List ℕ) → HoldsOf t mode js list count → HoldsOf t mode (js ++ (j ∷ [])) new more
+
+-- 64 places, of which the first n have the tests below n in some order
+pub record Queued (n : ℕ) (tests : List ℕ) : Type 0 where
+  pub places : length tests ≡ 64
+  pub all : Perm (take n tests) (below n)
+
+-- the winners of all tests
 abbrev pub AllWinners : Table → ℕ → List Candidate → ℕ → Type 0
-AllWinners t mode list count = Holds mostK list count (rankedList (modeOf mode) level (structure t) (times t) mostK (below (tests (structure t))))
+AllWinners t mode list count = HoldsOf t mode (below (tests (structure t))) list count

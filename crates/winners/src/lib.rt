@@ -1,11 +1,12 @@
 // The winners of all tests, over a table that passed its check: the work area is prepared once, the rows of one test after the other are laid in it, and the
-// candidates of each test enter a ranked list. A test whose bound shows that none of its candidates would enter is left out.
+// candidates of each test enter a ranked list. A test whose bound shows that none of its candidates would enter is left out. The tests are taken in the order of
+// their bounds, so that the list soon holds the worst; the answer does not depend on that order.
 use timing::Candidate;
 use timing::Design;
 ghost use mathlib.Core.Path.{_≡_};
 ghost use mathlib.Core.Bool.{true};
 ghost use Prim.Native.Nat.{_+_, _≤_, _<_};
-ghost use lib.ListN.{length};
+ghost use lib.ListN.{length, take};
 ghost use lib.IntN.{subℕ};
 ghost use Rattle.lists.specs.Parts.{capped};
 ghost use Rattle.lists.specs.Laws.Count.{countTo};
@@ -19,7 +20,7 @@ ghost use Rattle.clocks.specs.Clocked as clocked;
 ghost use Rattle.engine.specs.Laid.{Ready};
 ghost use Rattle.engine.specs.Steps.{Counts};
 ghost use Rattle.winners.specs.Standing.{Prepared, Standing};
-ghost use Rattle.winners.specs.Winning.{Sown, countAt, recordOf, candidateOf, HasRank, Above, Come, LeastInto, Leasts, Shared, Next, AllBounds, Full, HoldsBelow, AllWinners};
+ghost use Rattle.winners.specs.Winning.{Sown, countAt, recordOf, candidateOf, HasRank, Above, Come, LeastInto, Leasts, Shared, Next, AllBounds, Full, Sized, Adds, Queued, AllWinners};
 
 // The sorted arcs and the clock side of a table, for all tests.
 pub fn prepare(table: &[u32], mode: u32, work: &mut [u64])
@@ -38,13 +39,14 @@ fn seed(table: &[u32], mode: u32, work: &mut [u64], j: usize)
     clocks::seeds(table, mode, work, tables::of_test(table, 0, j));
 }
 
-// The seeds and the rows of test j.
+// The seeds of test j, and the rows up to its data pin: a walk to it passes no later pin.
 pub fn lay(table: &[u32], mode: u32, work: &mut [u64], j: usize)
     requires { ⌜ Prepared (now table) mode (now work) × (j < testCount (now table)) ⌝ }
     ensures { λ _. ⌜ Standing (now (table .entry)) mode j (now (work .exit)) × (length (now (work .exit)) ≡ length (now (work .entry))) ⌝ }
 {
     seed(table, mode, work, j);
-    engine::table(work, tables::pin_count(table));
+    let data = tables::of_test(table, 1, j);
+    engine::table(work, data + 1);
 }
 
 // ---- the total
@@ -182,8 +184,8 @@ fn entered(won: Winners, c: Candidate) -> Winners
 // The candidates of the test that stands enter in order of rank, until one stays out: all later ones would.
 fn enter_test(table: &[u32], mode: u32, work: &[u64], j: usize, won: Winners) -> Winners
     requires { ⌜ Standing (now table) mode j (now work) ⌝ }
-    requires { ⌜ HoldsBelow (now table) mode j (won .list) (won .count) ⌝ }
-    ensures { λ r. ⌜ HoldsBelow (now (table .entry)) mode (j + 1) (r .list) (r .count) ⌝ }
+    requires { ⌜ Sized (won .list) (won .count) ⌝ }
+    ensures { λ r. ⌜ Adds (now (table .entry)) mode j (won .list) (won .count) (r .list) (r .count) ⌝ }
 {
     let n = engine::entries(work, tables::of_test(table, 1, j));
     let mut w = won;
@@ -303,8 +305,8 @@ fn take_test(
     won: Winners,
 ) -> Winners
     requires { ⌜ Next (now table) mode j bound (now work) ⌝ }
-    requires { ⌜ HoldsBelow (now table) mode j (won .list) (won .count) ⌝ }
-    ensures { λ r. ⌜ HoldsBelow (now (table .entry)) mode (j + 1) (r .list) (r .count) × Prepared (now (table .entry)) mode (now (work .exit)) ⌝ }
+    requires { ⌜ Sized (won .list) (won .count) ⌝ }
+    ensures { λ r. ⌜ Adds (now (table .entry)) mode j (won .list) (won .count) (r .list) (r .count) × Prepared (now (table .entry)) mode (now (work .exit)) ⌝ }
 {
     let first = record_of(table, mode, work, j, bound, 0);
     if stays_out(won, first) {
@@ -314,24 +316,97 @@ fn take_test(
     enter_test(table, mode, work, j, won)
 }
 
+// ---- the order of the tests
+
+// The tests in the order in which they are taken and, by place, the key that orders them: the slack that the test's bound allows.
+struct Queue {
+    tests: [usize; Design::TESTS],
+    keys: [i64; Design::TESTS],
+}
+
+// All tests, as they are numbered, with their keys.
+fn queue_of(table: &[u32], mode: u32, work: &[u64], bounds: [u64; Design::TESTS]) -> Queue
+    requires { ⌜ Clocked (now table) (now work) × AllBounds (now table) mode bounds ⌝ }
+    ensures { λ r. ⌜ Queued (testCount (now (table .entry))) (r .tests) ⌝ }
+{
+    let n = tables::test_count(table);
+    let mut tests = [0usize; Design::TESTS];
+    let mut keys = [0i64; Design::TESTS];
+    let mut j = 0;
+    while j < n {
+        let bound = bounds[j];
+        let allowed = record_of(table, mode, work, j, bound, 0);
+        let key = allowed.slack;
+        tests[j] = j;
+        keys[j] = key;
+        j += 1;
+    }
+    Queue {
+        tests: tests,
+        keys: keys,
+    }
+}
+
+// The place of the least key, of those from a place on and below n.
+fn nearest(keys: [i64; Design::TESTS], from: usize, n: usize) -> usize
+    requires { ⌜ (from < n) × (n ≤ 64) ⌝ }
+    ensures { λ r. ⌜ (from ≤ r) × (r < n) ⌝ }
+{
+    let mut at = from;
+    let mut i = from + 1;
+    while i < n {
+        if keys[i] < keys[at] {
+            at = i;
+        }
+        i += 1;
+    }
+    at
+}
+
+// The test with the least key, of those from place i on, changes places with the one at i.
+fn brought_forward(queue: Queue, i: usize, n: usize) -> Queue
+    requires { ⌜ Queued n (queue .tests) × (i < n) × (n ≤ 64) ⌝ }
+    ensures { λ r. ⌜ Queued n (r .tests) × (take i (r .tests) ≡ take i (queue .tests)) ⌝ }
+{
+    let mut tests = queue.tests;
+    let mut keys = queue.keys;
+    let m = nearest(keys, i, n);
+    let test = tests[m];
+    let first = tests[i];
+    tests[m] = first;
+    tests[i] = test;
+    let key = keys[m];
+    let first_key = keys[i];
+    keys[m] = first_key;
+    keys[i] = key;
+    Queue {
+        tests: tests,
+        keys: keys,
+    }
+}
+
 // ---- all tests
 
-// The winners of all tests, the tests ascending.
+// The winners of all tests. Any order of the tests leads to them.
 pub fn all_winners(table: &[u32], mode: u32, work: &mut [u64]) -> Winners
     requires { ⌜ Prepared (now table) mode (now work) ⌝ }
     ensures { λ r. ⌜ AllWinners (now (table .entry)) mode (r .list) (r .count) × Prepared (now (table .entry)) mode (now (work .exit)) × (length (now (work .exit)) ≡ length (now (work .entry))) ⌝ }
 {
-    let tests = tables::test_count(table);
+    let n = tables::test_count(table);
     let mut won = no_winners();
-    if tests == 0 {
+    if n == 0 {
         return won;
     }
     let bounds = bounds_of(table, mode, work);
-    let mut j = 0;
-    while j < tests {
+    let mut queue = queue_of(table, mode, work, bounds);
+    let mut done = 0;
+    while done < n {
+        queue = brought_forward(queue, done, n);
+        let tests = queue.tests;
+        let j = tests[done];
         let bound = bounds[j];
         won = take_test(table, mode, work, j, bound, won);
-        j += 1;
+        done += 1;
     }
     won
 }

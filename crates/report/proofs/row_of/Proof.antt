@@ -14,7 +14,7 @@ use Rattle.clocks.specs.Clocked.{Credited}
 use Rattle.clocks.specs.Known.{test-clock}
 use Rattle.engine.specs.Asked.{Walked}
 use Rattle.report.specs.Row.{rowOf}
-use Rattle.report.specs.Rowed.{walkPlace, pathIn, arcs-some, arcs-few, at-rank, walk-room, traced-count, still-prepared, start-is, start-in, puts, out-is}
+use Rattle.report.specs.Rowed.{walkPlace, pathIn, arcs-some, arcs-few, at-rank, walk-room, traced-count, still-standing, start-is, start-in, puts, out-is}
 use borrow.Author.Needs.{needs}
 use Rattle.report.proofs.row_of.Statement.{statement}
 use Rattle.report.proofs.row_of.Tie as tie
@@ -73,7 +73,7 @@ credit-from-requires c κs =
     let h = s .pre .standing .prepared .clocked .ready .checked in
     rw (c .of-test2 .ensures, d .before .before .before .before .count .ensures, started (c .before .before))
     (record {
-      clocked = still-prepared t (s .args .mode) (s .args .work .now) (s .args .c) (s .pre .standing) (s .pre .candidate) _ _ (traced d) (d .trace .kept .0) .clocked;
+      clocked = still-standing t (s .args .mode) (s .args .work .now) (s .args .c) (s .pre .standing) (s .pre .candidate) _ _ (traced d) (d .trace .kept .0) .prepared .clocked;
       clock = test-clock t h (s .args .c .test) (s .pre .standing .test);
       inside = start-in t (s .args .mode) (s .args .work .now) (s .args .c) (s .pre .standing) (s .pre .candidate) _ _ (traced d);
     })
@@ -116,7 +116,7 @@ returns c =
     let z : toZ w64 (ofZ w64 (s .args .c .slack)) ≡ s .args .c .slack = toZ-ofZ w64 (s .args .c .slack) (record { sfits = c .before .before .before .before .struct-told .given .0 .1 }) in
     let f = rw (z, c .before .before .before .before .before .before .wide .ensures, c .before .before .before .before .before .wide2 .ensures, started (k .before .before .before)) at e in (
       f ∙ out-is t (s .args .mode) (s .args .work .now) (s .args .c) (s .pre .standing) (s .pre .candidate) _ _ (traced d) (d .trace .kept .0) _ (credited k) _ (s .pre .room),
-      still-prepared t (s .args .mode) (s .args .work .now) (s .args .c) (s .pre .standing) (s .pre .candidate) _ _ (traced d) (d .trace .kept .0),
+      still-standing t (s .args .mode) (s .args .work .now) (s .args .c) (s .pre .standing) (s .pre .candidate) _ _ (traced d) (d .trace .kept .0),
     )
 
 pub row-of-spec : {M : Type 1} → statement M

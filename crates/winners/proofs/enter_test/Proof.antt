@@ -1,4 +1,4 @@
--- `winners::enter_test` meets its contract. The invariant: the list holds the winners of the tests below j and of the first i candidates of test j.
+-- `winners::enter_test` meets its contract. The invariant: the list holds the winners of the tests that it came with, and of the first i candidates of test j.
 -- Assumes nothing.
 use mathlib.Core.Path.{_≡_}
 use mathlib.Core.List.{List}
@@ -16,18 +16,20 @@ use Rattle.worst.specs.Laws.Kept.{Holds}
 use Rattle.engine.specs.Area.{plan}
 use Rattle.engine.specs.Entries as engine
 use Rattle.winners.specs.Standing.{level}
+use Rattle.winners.specs.Winning.{Sized, HoldsOf}
 use Rattle.winners.specs.Laws.Entered.{data-at, found}
-use Rattle.winners.specs.Laws.Listed.{part, holds-none-yet, holds-more, holds-last, holds-stop}
+use Rattle.winners.specs.Laws.Listed.{sized-enter, part, holds-none-yet, holds-more, holds-last, holds-stop}
 use Rattle.winners.proofs.enter_test.Statement.{statement}
 use Rattle.winners.proofs.enter_test.Tie as tie
 
-record So (t : Table) (mode j : ℕ) (w : List ℕ) (n i : ℕ) (list : List Candidate) (count : ℕ) : Type 0 where
+record So (t : Table) (mode j : ℕ) (w : List ℕ) (n i : ℕ) (list₀ : List Candidate) (count₀ : ℕ) (list : List Candidate) (count : ℕ) : Type 0 where
   stop : n ≡ length (engine.entries (plan w) (testData t j))
   at : i ≤ n
-  so-far : Holds mostK list count (part t mode j i)
+  sized : Sized list count
+  so-far : (js : List ℕ) → HoldsOf t mode js list₀ count₀ → Holds mostK list count (part t mode j js i)
 
 abbrev Inv-loop : tie.InvT-loop
-Inv-loop table mode work j n w₀ i₀ w i = So table mode j work n i (w .list) (w .count)
+Inv-loop table mode work j n w₀ i₀ w i = So table mode j work n i (w₀ .list) (w₀ .count) (w .list) (w .count)
 
 abbrev μ-loop : tie.MeasureT-loop
 μ-loop table mode work j n w₀ i₀ w i = n - i
@@ -42,7 +44,7 @@ loop-holds : tie.Need-loop-holds Inv-loop μ-loop
 loop-holds c =
     let s = c .before .before .before .before in
     let e : c .before .of-test .result ≡ testData (s .args .table .now) (s .args .j) = c .before .of-test .ensures in
-    record { stop = rw e at (c .entries .ensures .is); at = omega arith; so-far = holds-none-yet _ _ _ _ _ (s .pre .1) }
+    record { stop = rw e at (c .entries .ensures .is); at = omega arith; sized = s .pre .1; so-far = λ js h. holds-none-yet _ _ _ js _ _ h }
 
 -- in a turn
 real : (c : tie.In-loop Inv-loop μ-loop)
@@ -58,7 +60,7 @@ candidate-requires c κs =
     record { standing = s .pre .0; real = omega (arith, c .loop-test .taken, c .before .loop .inv .stop) }
 
 stays-out-requires : tie.Need-stays-out-requires Inv-loop μ-loop
-stays-out-requires c κs = c .before .before .loop .inv .so-far .places
+stays-out-requires c κs = c .before .before .loop .inv .sized .places
 
 returns : tie.Need-returns Inv-loop μ-loop
 returns c =
@@ -66,12 +68,16 @@ returns c =
     let t = b .before in
     let s = t .before .before .before .before .before .before in
     let S = s .pre .0 in
-    holds-stop _ _ _ (S .prepared .clocked .ready .checked) (S .test) _ (real t) _ _ _ (b .candidate .ensures) (c .before .stays-out .ensures (c .if1 .taken)) (t .before .loop .inv .so-far)
+    let i = t .before .loop .inv in
+    record {
+      sized = i .sized;
+      adds = λ js h.
+          holds-stop _ _ _ js (S .prepared .clocked .ready .checked) (S .test) _ (real t) _ _ _ (b .candidate .ensures) (c .before .stays-out .ensures (c .if1 .taken))
+          (i .so-far js h);
+    }
 
 entered-requires : tie.Need-entered-requires Inv-loop μ-loop
-entered-requires c κs =
-    let h = c .before .before .before .before .loop .inv .so-far in
-    omega (arith, h .counted, h .few)
+entered-requires c κs = c .before .before .before .before .loop .inv .sized .few
 
 add-i : tie.Need-add-i Inv-loop μ-loop
 add-i c = search needs
@@ -87,14 +93,18 @@ loop-again c =
     record {
       stop = i .stop;
       at = omega (arith, t .loop-test .taken);
-      so-far = holds-more _ _ _ _ (real t) _ _ _ _ _ (b .candidate .ensures) (c .entered .ensures .0) (c .entered .ensures .1) (i .so-far);
+      sized = sized-enter _ _ _ _ _ (c .entered .ensures .0) (c .entered .ensures .1) (i .sized);
+      so-far = λ js h. holds-more _ _ _ js _ (real t) _ _ _ _ _ (b .candidate .ensures) (c .entered .ensures .0) (c .entered .ensures .1) (i .so-far js h);
     }
 
 returns-2 : tie.Need-returns-2 Inv-loop μ-loop
 returns-2 c =
     let s = c .before .before .before .before .before .before in
     let i = c .before .loop .inv in
-    holds-last _ _ _ _ (omega (arith, c .loop-test .left, i .at, i .stop, found _ _ _ _ (s .pre .0))) _ _ (i .so-far)
+    record {
+      sized = i .sized;
+      adds = λ js h. holds-last _ _ _ js _ (omega (arith, c .loop-test .left, i .at, i .stop, found _ _ _ _ (s .pre .0))) _ _ (i .so-far js h);
+    }
 
 pub enter-test-spec : {M : Type 1} → statement M
 enter-test-spec =

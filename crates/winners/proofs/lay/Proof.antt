@@ -1,8 +1,12 @@
--- `winners::lay` meets its contract: the rows are made from the seeds of the test.
+-- `winners::lay` meets its contract: the rows are made from the seeds of the test, up to its data pin.
 -- Assumes nothing.
 use mathlib.Core.Path.{_≡_, _∙_}
+use Prim.Native.Nat.{_<_}
+use native.Mathlib.Omega.{arith}
 use borrow.Author.Needs.{needs}
-use Rattle.timing.specs.Table.{pinCount}
+use Rattle.timing.specs.Table.{pinCount, testData}
+use Rattle.clocks.specs.Small.{few-pins}
+use Rattle.clocks.specs.Known.{test-data}
 use Rattle.winners.specs.Laws.Prepared.{laid-ready, sown-stands}
 use Rattle.winners.proofs.lay.Statement.{statement}
 use Rattle.winners.proofs.lay.Tie as tie
@@ -10,11 +14,24 @@ use Rattle.winners.proofs.lay.Tie as tie
 seed-requires : tie.Need-seed-requires
 seed-requires c κs = search needs
 
-pin-count-requires : tie.Need-pin-count-requires
-pin-count-requires c κs = search needs
+of-test-requires : tie.Need-of-test-requires
+of-test-requires c κs = search needs
+
+-- the data pin is a pin
+inside : (c : tie.After-of-test) → (c .of-test .result < pinCount (c .before .before .before .before .before .before .before .args .table .now)) × (c .of-test .result < 256)
+inside c =
+    let b = c .before .before .before in
+    let h = b .seed .ensures .prepared .clocked .ready .checked in
+    let l = test-data _ h _ (b .before .before .before .before .pre .1) in
+    rw (c .of-test .ensures) (l, omega (arith, l, few-pins _ h))
+
+add-table : tie.Need-add-table
+add-table c = omega (arith, inside (c .before) .1)
 
 table-requires : tie.Need-table-requires
-table-requires c κs = rw (c .pin-count .ensures) (let k = c .before .before .before .before .seed .ensures in laid-ready _ _ _ _ (k .prepared) (k .laid))
+table-requires c κs =
+    let k = c .before .before .before .before .seed .ensures in
+    laid-ready _ _ _ _ (k .prepared) (k .laid) _ (omega (arith, inside (c .before) .0))
 
 same-length : tie.Need-same-length
 same-length c = search needs
@@ -22,10 +39,11 @@ same-length c = search needs
 returns : tie.Need-returns
 returns c =
     let k = c .before .before .table in
-    let b = c .before .before .before .before .before .before .before in
+    let o = c .before .before .before .before in
+    let b = o .before .before .before in
     let s = b .before .before .before .before in
-    let e : c .before .before .before .pin-count .result ≡ pinCount (s .args .table .now) = c .before .before .before .pin-count .ensures in
+    let e : o .of-test .result ≡ testData (s .args .table .now) (s .args .j) = o .of-test .ensures in
     (sown-stands _ _ _ _ (b .seed .ensures) _ (s .pre .1) (k .kept .0) (rw e at (k .ensures)), k .kept .0 ∙ b .seed .kept .1 .1 .0)
 
 pub lay-spec : {M : Type 1} → statement M
-lay-spec = tie.close (tie.spec seed-requires pin-count-requires table-requires same-length returns)
+lay-spec = tie.close (tie.spec seed-requires of-test-requires add-table table-requires same-length returns)

@@ -23,8 +23,13 @@ returns c =
     let s = r .before .before .before .before in
     let p = s .pre .0 in
     let e : r .record-of .result ≡ recordOf (s .args .table .now) (s .args .mode) (s .args .j) (s .args .bound) 0 = r .record-of .ensures in
-    let f : Full (s .args .won .list) (s .args .won .count) (r .record-of .result) = c .before .stays-out .ensures (c .if1 .taken) in
-    (holds-skip _ _ _ _ (p .prepared .clocked .ready .checked) (p .test) (p .bounds) _ _ (rw e at f) (s .pre .1), p .prepared)
+    let f : Full (s .args .won .list) (s .args .won .count) (r .record-of .result) = c .before .stays-out .ensures (c .if1 .taken) in (
+      record {
+        sized = s .pre .1;
+        adds = λ js h. holds-skip _ _ _ _ (p .prepared .clocked .ready .checked) (p .test) (p .bounds) _ _ (rw e at f) js h;
+      },
+      p .prepared,
+    )
 
 lay-requires : tie.Need-lay-requires
 lay-requires c κs =

@@ -35,7 +35,7 @@ pin-count-requires : tie.Need-pin-count-requires
 pin-count-requires c κs = search needs
 
 counts-requires : tie.Need-counts-requires
-counts-requires c κs = rw (c .pin-count .ensures) (let k = c .before .before .before .before .seed .ensures in laid-ready _ _ _ _ (k .prepared) (k .laid))
+counts-requires c κs = rw (c .pin-count .ensures) (let k = c .before .before .before .before .seed .ensures in laid-ready _ _ _ _ (k .prepared) (k .laid) _ (omega arith))
 
 add-counts-requires : tie.Need-add-counts-requires
 add-counts-requires c κs = prepared (c .before .before .before) .clocked .ready

@@ -5,7 +5,7 @@
 use mathlib.Core.Path.{_≡_, sym, subst, _∙_}
 use mathlib.Core.Logic.{inl, inr}
 use mathlib.Core.Bool.{false}
-use mathlib.Core.List.{List, [], _++_}
+use mathlib.Core.List.{List, [], _∷_, _++_}
 use mathlib.Core.Option.{none}
 use Prim.Native.Nat.{ℕ, _+_, _≤_, _<_}
 use native.Mathlib.Omega.{arith}
@@ -13,7 +13,7 @@ use native.Mathlib.Decide.{decLt}
 use lib.ListN.{length, getD}
 use lib.Seq.{take-length}
 use lib.IntN.{subℕ}
-use Rattle.lists.specs.Parts.{below, last}
+use Rattle.lists.specs.Parts.{last}
 use Rattle.lists.specs.Laws.Member.{In, in-each, into-each, in-right}
 use Rattle.lists.specs.Laws.Pieces.{in-place}
 use Rattle.timing.specs.Limits.{mostK}
@@ -42,10 +42,10 @@ use Rattle.engine.specs.Area.{plan}
 use Rattle.engine.specs.Laid.{Small, Laid, Ready}
 use Rattle.engine.specs.Sorting.{weighing}
 use Rattle.winners.specs.Standing.{level, Prepared}
-use Rattle.winners.specs.Winning.{recordOf, Bounds, Above, leastAt, Leasts, Shared, nobody, Full, HoldsBelow}
+use Rattle.winners.specs.Winning.{recordOf, Bounds, Above, leastAt, Leasts, Shared, nobody, Full, HoldsOf}
 use Rattle.winners.specs.Laws.Prepared.{test-small, seeds-prepared, seeds-laid, laid-ready}
 use Rattle.winners.specs.Laws.Least.{plan-kept, least-value}
-use Rattle.winners.specs.Laws.Listed.{last-at, below-one}
+use Rattle.winners.specs.Laws.Listed.{last-at}
 
 -- ---- a pin on all clock routes
 
@@ -111,7 +111,7 @@ module _ (t : Table) (mode y : ℕ) (w v : List ℕ) (p : Prepared t mode w) (l 
   shared-laid = seeds-laid t mode y (a .pin) (shared-small t (p .clocked .ready .checked) mode y a l) v (seeds-prepared t mode w v p k) s
 
   pub shared-ready : Ready v (pinCount t)
-  shared-ready = laid-ready t mode (seedOf (modeOf mode) level (structure t) (times t) y) v (seeds-prepared t mode w v p k) shared-laid
+  shared-ready = laid-ready t mode (seedOf (modeOf mode) level (structure t) (times t) y) v (seeds-prepared t mode w v p k) shared-laid (pinCount t) (omega arith)
 
   -- they are bounds
   pub shared-bounds : (u : List ℕ) → Leasts v u (pinCount t) → Shared t mode u
@@ -151,15 +151,15 @@ module _ (t : Table) (mode y : ℕ) (w v : List ℕ) (p : Prepared t mode w) (l 
 -- ---- a test that is left out
 
 pub holds-skip : (t : Table) (mode j v : ℕ) → tableFault t ≡ none → j < testCount t → Bounds t mode j v → (list : List Candidate) (count : ℕ)
-    → Full list count (recordOf t mode j v 0) → HoldsBelow t mode j list count → HoldsBelow t mode (j + 1) list count
-holds-skip t mode j v f l b list count o h =
+    → Full list count (recordOf t mode j v 0) → (js : List ℕ) → HoldsOf t mode js list count → HoldsOf t mode (js ++ (j ∷ [])) list count
+holds-skip t mode j v f l b list count o js h =
     let s = structure t in
     let x = times t in
     let m = modeOf mode in
     let c = recordOf t mode j v 0 in
     let a = accepted t f in
     let d : j < tests s = rw (tests-is t) l in
-    let L = rankedList m level s x mostK (below j) in
+    let L = rankedList m level s x mostK js in
     let n : length L ≡ 16 = sym (h .counted) ∙ o .all in
     let z : count ≡ length list = o .all ∙ sym (h .places) in
     let same : list ≡ L = sym (take-length list) ∙ rw z at (h .front) in
@@ -168,4 +168,4 @@ holds-skip t mode j v f l b list count o h =
     subst
     (λ (f : ℕ → ℕ). ((u : List ℕ) → In u (walks s (dataPin s j)) → v ≤ value m f s x (clockPin s j) u) → Bound m f s x j (subℕ (v + raise m s x j) (lower m f s x j)))
     (accepted-level t f) (value-bound s (a .sound) x (a .ranged) m j d v) (b .least) in
-    rw (← below-one j, list-bound m level s x c mostK (below j) j (subℕ (v + raise m s x j) (lower m level s x j)) n bound g) h
+    rw (list-bound m level s x c mostK js j (subℕ (v + raise m s x j) (lower m level s x j)) n bound g) h

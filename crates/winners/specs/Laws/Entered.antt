@@ -10,7 +10,7 @@ use lib.IntN.{ℤ, subℕ}
 use Rattle.lists.specs.Parts.{below}
 use Rattle.lists.specs.Laws.Member.{In, length-each, into-each, into-below}
 use Rattle.lists.specs.Laws.Column.{column-length}
-use Rattle.timing.specs.Table.{Table, pinCount, testCount, testData}
+use Rattle.timing.specs.Table.{Table, testCount, testData}
 use Rattle.timing.specs.Structure.{pins, tests, clockPin, dataPin, structure, times}
 use Rattle.timing.specs.Paths.{walks}
 use Rattle.timing.specs.Value.{value, rankedWalks, weightOf, seedOf, raise, lower}
@@ -37,7 +37,7 @@ use Rattle.winners.specs.Laws.Totals.{data-other}
 -- ---- the row of a test's data pin, whatever seeds it is made from
 
 module _ (t : Table) (mode j : ℕ) (l : j < testCount t) (seed : ℕ → ℕ) (w : List ℕ) (P : Prepared t mode w)
-    (L : Laid (structure t) (weighing t mode) seed (plan w)) (M : Made w (pinCount t)) where
+    (L : Laid (structure t) (weighing t mode) seed (plan w)) (M : Made w (testData t j + 1)) where
   pub data-inside : testData t j < pins (structure t)
   data-inside = rw (pins-is t) (test-data t (P .clocked .ready .checked) j l)
 
@@ -45,9 +45,9 @@ module _ (t : Table) (mode j : ℕ) (l : j < testCount t) (seed : ℕ → ℕ) (
   row-at =
       let h = P .clocked .ready .checked in
       record {
-        size = pinCount t;
+        size = testData t j + 1;
         made = M;
-        pin = test-data t h j l;
+        pin = omega arith;
         other = rw (L .by-seeds .other (testData t j) data-inside (data-other t h j l)) (omega arith);
       }
 

@@ -4,12 +4,12 @@ use mathlib.Core.Path.{_≡_, refl, sym, ap, _∙_}
 use mathlib.Core.Logic.{inl, inr}
 use mathlib.Core.Bool.{true, false}
 use mathlib.Core.List.{List, [], _∷_}
-use Prim.Native.Nat.{ℕ, suc, _+_, _-_, _≤_, _<_, min}
+use Prim.Native.Nat.{ℕ, suc, _+_, _-_, _≤_, _<_}
 use native.Mathlib.Nat.{not-suc-le-zero}
 use native.Mathlib.Omega.{arith}
 use native.Mathlib.Decide.{ℕ-discrete}
-use lib.ListN.{length, getD, set, drop, length-take, length-drop}
-use lib.Seq.{getD-set-same, getD-set-other, ext-getD}
+use lib.ListN.{length, getD, set}
+use lib.Seq.{getD-set-same, getD-set-other}
 use Rattle.lists.specs.Laws.Member.{In}
 use Rattle.timing.specs.Structure.{Structure, pins, arcs, leaves, enters}
 use Rattle.timing.specs.Clock.{into}
@@ -22,21 +22,14 @@ use Rattle.clocks.specs.Kept.{kept-none, kept-set}
 use Rattle.engine.specs.Area.{plan, wordAt, firstAt, seedAt, fromIn, weightIn}
 use Rattle.engine.specs.Laid.{Laid}
 use Rattle.engine.specs.Steps.{Counts}
-use Rattle.engine.specs.Laws.Made.{plan-at, seed-at}
+use Rattle.engine.specs.Laws.Made.{seed-at}
 use Rattle.engine.specs.Laws.Best.{read}
 use Rattle.winners.specs.Winning.{leastAt, LeastInto, Leasts}
+use Rattle.winners.specs.Laws.Prepared.{plan-same}
 
 -- the plan stands before the least values
 pub plan-kept : (w v : List ℕ) → Kept 5633 5889 w v → plan v ≡ plan w
-plan-kept w v k =
-    ext-getD 0 (plan v) (plan w) same-length
-    (λ i l. let h : i < 1537 = omega (arith, short v, l) in plan-at v i h ∙ k .front (4096 + i) (omega arith) ∙ sym (plan-at w i h))
-  where
-    same-length : length (plan v) ≡ length (plan w)
-    same-length = unfold plan in simp (length-take, length-drop) (ap (λ (n : ℕ). min 1537 (n - 4096)) (k .long))
-
-    short : (u : List ℕ) → length (plan u) ≤ 1537
-    short u = unfold plan in omega (arith, length-take 1537 (drop 4096 u))
+plan-kept w v k = plan-same w v (k .long) (k .front)
 
 module _ (s : Structure) (weight seed : ℕ → ℕ) where
   -- an arc into a pin leaves a lower one

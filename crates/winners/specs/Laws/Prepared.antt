@@ -3,12 +3,12 @@
 use mathlib.Core.Path.{_≡_, sym, ap, subst, _∙_}
 use mathlib.Core.List.{List}
 use mathlib.Core.Option.{none}
-use Prim.Native.Nat.{ℕ, _≤_, _<_}
+use Prim.Native.Nat.{ℕ, _+_, _-_, _*_, _≤_, _<_, min}
 use native.Mathlib.Omega.{arith}
-use lib.ListN.{length, take, drop}
-use lib.Seq.{drop-drop}
+use lib.ListN.{length, getD, take, drop, length-take, length-drop}
+use lib.Seq.{drop-drop, getD-take, ext-getD}
 use Rattle.lists.specs.Choice.{pick}
-use Rattle.timing.specs.Table.{Table, pinCount, testCount, testClock}
+use Rattle.timing.specs.Table.{Table, pinCount, testCount, testClock, testData}
 use Rattle.timing.specs.Structure.{pins, tests, leaves, enters, clockPin, structure, times}
 use Rattle.timing.specs.Paths.{isStart}
 use Rattle.timing.specs.Value.{weightOf, seedOf, valueOf}
@@ -19,16 +19,29 @@ use Rattle.timing.specs.Laws.Columns.{pins-is, arcs-is, tests-is, clock-is}
 use Rattle.timing.specs.Laws.Valued.{value-most}
 use Rattle.clocks.specs.Area.{Kept, seedsAt, seedsEnd, clocksAt, freeAt}
 use Rattle.clocks.specs.Clocked.{ClockPin, Clocked, Seeded, seedFor}
-use Rattle.clocks.specs.Kept.{kept-take, clocked-kept, clocked-drop}
+use Rattle.clocks.specs.Kept.{kept-take, clocked-kept, clocked-drop, clocked-same}
 use Rattle.clocks.specs.Known.{test-clock}
 use Rattle.clocks.specs.Small.{seed-small}
 use Rattle.engine.specs.Area.{plan}
 use Rattle.engine.specs.Laid.{Ordered, Arcs, Small, Laid, Ready}
 use Rattle.engine.specs.Steps.{Tabled}
 use Rattle.engine.specs.Sorting.{weighing}
+use Rattle.engine.specs.Laws.Made.{plan-at}
 use Rattle.engine.specs.Laws.Kept.{arcs-kept, seeds-are}
 use Rattle.winners.specs.Standing.{level, testSeed, Prepared, Standing}
 use Rattle.winners.specs.Winning.{Sown}
+
+-- the plan stands below place 5,633
+pub plan-same : (w v : List ℕ) → length v ≡ length w → ((i : ℕ) → i < 5633 → getD v i 0 ≡ getD w i 0) → plan v ≡ plan w
+plan-same w v n same =
+    ext-getD 0 (plan v) (plan w) same-length
+    (λ i l. let h : i < 1537 = omega (arith, short v, l) in plan-at v i h ∙ same (4096 + i) (omega arith) ∙ sym (plan-at w i h))
+  where
+    same-length : length (plan v) ≡ length (plan w)
+    same-length = unfold plan in simp (length-take, length-drop) (ap (λ (n : ℕ). min 1537 (n - 4096)) n)
+
+    short : (u : List ℕ) → length (plan u) ≤ 1537
+    short u = unfold plan in omega (arith, length-take 1537 (drop 4096 u))
 
 module _ (t : Table) (h : tableFault t ≡ none) where
   pub few-pins : pins (structure t) ≤ 256
@@ -95,15 +108,15 @@ module _ (t : Table) (mode : ℕ) where
         let e : clockPin (structure t) j ≡ testClock t j = clock-is t j l in
         record { prepared = q; laid = seeds-laid (clockPin (structure t) j) (rw e (test-clock t h j l)) (test-small h) v q (rw e s) }
 
-  -- the rows can be made
-  pub laid-ready : (seed : ℕ → ℕ) (w : List ℕ) → Prepared t mode w → Laid (structure t) (weighing t mode) seed (plan w) → Ready w (pinCount t)
-  laid-ready seed w p l =
+  -- the rows of the first n pins can be made
+  pub laid-ready : (seed : ℕ → ℕ) (w : List ℕ) → Prepared t mode w → Laid (structure t) (weighing t mode) seed (plan w) → (n : ℕ) → n ≤ pinCount t → Ready w n
+  laid-ready seed w p l n k =
       record {
         of = structure t;
         weight = weighing t mode;
         seed = seed;
         laid = l;
-        size = rw (pins-is t) (omega arith);
+        size = rw (pins-is t) k;
         long = omega (arith, p .clocked .ready .room);
       }
 
@@ -118,6 +131,25 @@ module _ (t : Table) (mode : ℕ) where
       record { clocked = clocked-drop t w v n d (p .clocked); by-arcs = rw (rows-plan w v k) (p .by-arcs) }
 
   -- the rows of a test
-  pub sown-stands : (j : ℕ) (w : List ℕ) → Sown t mode j w → (v : List ℕ) → j < testCount t → length v ≡ length w → Tabled w v (pinCount t) → Standing t mode j v
+  pub sown-stands : (j : ℕ) (w : List ℕ) → Sown t mode j w → (v : List ℕ) → j < testCount t → length v ≡ length w → Tabled w v (testData t j + 1)
+      → Standing t mode j v
   sown-stands j w p v l n k =
       record { prepared = rows-prepared w v (p .prepared) n (k .rest); test = l; laid = rw (rows-plan w v (k .rest)) (p .laid); made = k .made }
+
+  -- they stand as long as nothing is written before the free part
+  pub standing-kept : (j : ℕ) (w v : List ℕ) → length v ≡ length w → take freeAt v ≡ take freeAt w → Standing t mode j w → Standing t mode j v
+  standing-kept j w v n e s =
+      let same : (i : ℕ) → i < freeAt → getD v i 0 ≡ getD w i 0 =
+      λ i l. sym (getD-take freeAt v i 0 l) ∙ ap (λ (a : List ℕ). getD a i 0) e ∙ getD-take freeAt w i 0 l in
+      let p : plan v ≡ plan w = plan-same w v n (λ i l. same i (omega arith)) in
+      let m = s .made in
+      record {
+        prepared = record { clocked = clocked-same t w v n (λ i h l. same i l) (s .prepared .clocked); by-arcs = rw p (s .prepared .by-arcs) };
+        test = s .test;
+        laid = rw p (s .laid);
+        made = record {
+          long = omega (arith, m .long, n);
+          sane = rw p (m .sane);
+          rows = λ u r h k. rw p (same (u * 16 + r) (omega (arith, m .sane .few)) ∙ m .rows u r h k);
+        };
+      }
