@@ -391,7 +391,7 @@ pub fn line(text: &[u8], n: usize) -> &[u8]
 }
 
 // Where line n begins; outside the lines the end.
-fn line_start(text: &[u8], n: usize) -> usize
+pub fn line_start(text: &[u8], n: usize) -> usize
     ensures { λ r. ⌜ (r ≡ lineStart (now (text .entry)) n) × (r ≤ length (now (text .entry))) ⌝ }
 {
     if n == 0 {
