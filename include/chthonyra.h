@@ -72,7 +72,7 @@ struct chthonyra_reading {
 };
 
 /* Where a line stands in its text: the offset of its first byte, and its length without byte 10. */
-struct chthonyra_line {
+struct chthonyra_part {
     size_t start;
     size_t length;
 };
@@ -95,7 +95,7 @@ struct chthonyra_answer {
 struct chthonyra_reading chthonyra_read(const uint8_t *text, size_t text_length, uint32_t *table, size_t table_length);
 
 /* Line n of a text, counted from 1: for showing the line that refusals 2, 3 and 4 name. Outside the lines the empty part at the text's end. */
-struct chthonyra_line chthonyra_line(const uint8_t *text, size_t text_length, size_t n);
+struct chthonyra_part chthonyra_line(const uint8_t *text, size_t text_length, size_t n);
 
 /* Checks a table. Refusals 6 to 13. */
 struct chthonyra_checked chthonyra_check(const uint32_t *table, size_t table_length);
