@@ -34,11 +34,11 @@ def must(words, **named):
     return run.stdout
 
 
-def need(command, package):
+def need(command, *packages):
     """Have a command, by apt-get where it is absent."""
     if shutil.which(command) is None:
         must(["apt-get", "update", "-qq"])
-        must(["apt-get", "install", "-y", "-qq", package])
+        must(["apt-get", "install", "-y", "-qq", *packages])
     if shutil.which(command) is None:
         sys.exit(f"{command} is absent and could not be installed")
 
@@ -101,7 +101,7 @@ def agrees(program, show, text, wanted):
 
 def main():
     """Build, run, compare."""
-    need("gcc", "gcc")
+    need("gcc", "gcc", "libc6-dev")
     need("cargo", "cargo")
     os.makedirs(MADE, exist_ok=True)
     must(["rt", "staticlib", "chthonyra"], cwd=ROOT)

@@ -17,12 +17,15 @@ fn text_of(name: Option<String>) -> io::Result<Vec<u8>> {
 }
 
 fn answer_of(text: &[u8]) -> Result<Answer, Refusal> {
-    let (design, asking) = Design::read(text).inspect_err(|refusal| {
-        if refusal.place != 0 {
-            eprintln!("line {}: {}", refusal.place, line(text, refusal.place).escape_ascii());
+    match Design::read(text) {
+        Ok((design, asking)) => design.ask(asking.mode, asking.k),
+        Err(refusal) => {
+            if refusal.place != 0 {
+                eprintln!("line {}: {}", refusal.place, line(text, refusal.place).escape_ascii());
+            }
+            Err(refusal)
         }
-    })?;
-    design.ask(asking.mode, asking.k)
+    }
 }
 
 fn print(answer: &Answer, out: &mut impl Write) -> io::Result<()> {

@@ -185,9 +185,13 @@ fn rows_in(room: &[i64], pins: usize, rows: usize) -> Vec<Row> {
 }
 
 fn row_of(numbers: &[i64]) -> Option<Row> {
-    let [slack, credit, test, start, count, arcs @ ..] = numbers else { return None };
-    let arcs = arcs.iter().take(*count as usize).map(|arc| *arc as usize).collect();
-    Some(Row { slack: *slack, credit: *credit, test: *test as usize, start: *start as usize, arcs })
+    match numbers {
+        [slack, credit, test, start, count, arcs @ ..] => {
+            let arcs = arcs.iter().take(*count as usize).map(|arc| *arc as usize).collect();
+            Some(Row { slack: *slack, credit: *credit, test: *test as usize, start: *start as usize, arcs })
+        }
+        _ => None,
+    }
 }
 
 /// A design: the numbers of its table. They need not be right; [`Design::check`] and [`Design::ask`] refuse those that are not.
