@@ -128,7 +128,8 @@ void text_change(struct text *x)
 
 static uint32_t a_number(const struct table *t)
 {
-    static const uint32_t likely[] = {0, 1, 2, 3, 4, 5, 6, 63, 64, 65, 255, 256, 257, 1023, 1024, 1025, LIMIT - 1, LIMIT, LIMIT + 1, 0x55555555, 0x40000000, 0x80000000, UINT32_MAX};
+    static const uint32_t likely[] = {0,    1,    2,    3,         4,     5,         6,          63,         64,         65,        255, 256, 257,
+                                      1023, 1024, 1025, LIMIT - 1, LIMIT, LIMIT + 1, 0x55555555, 0x40000000, 0x80000000, UINT32_MAX};
     uint32_t there = t->length == 0 ? 0 : t->number[below(t->length)];
     switch (below(4)) {
     case 0: return there;

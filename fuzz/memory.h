@@ -1,6 +1,7 @@
 /*
- * Lent memory between guards. Each buffer stands in pages of its own between two pages that cannot be touched, its end at the upper one or its start at the lower one: any
- * byte read or written beyond that edge stops the program. The rest of its pages is filled with a pattern, which must still stand afterwards.
+ * Lent memory between guards. Each buffer stands in pages of its own between two pages that cannot be touched, its end at
+ * the upper one or its start at the lower one: any byte read or written beyond that edge stops the program. The rest of its
+ * pages is filled with a pattern, which must still stand afterwards.
  */
 #ifndef MEMORY_H
 #define MEMORY_H

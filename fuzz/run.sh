@@ -1,13 +1,14 @@
 #!/usr/bin/env bash
-# Fuzzing of the library: texts and tables, whole and changed, in buffers of right and wrong sizes between guard pages, against the model in C and against
-# the second implementation in Python.
+# Fuzzing of the library: texts and tables, whole and changed, in buffers of right and wrong sizes between guard pages,
+# against the model in C and against the second implementation in Python.
 #
 #     fuzz/run.sh short                  the run of the gate: fixed seed and count
 #     fuzz/run.sh long COUNT [SEED]      by hand: the same with another count and seed
-#     fuzz/run.sh valgrind COUNT [SEED]  by hand: under valgrind's memcheck, some hundred times slower
+#     fuzz/run.sh valgrind COUNT [SEED]  by hand: under valgrind's memcheck, which looks into the archive's code too
 #
-# It takes target/staticlib/libchthonyra.a as it is, and has it built where it is absent. The driver is compiled with gcc's checkers of addresses and of undefined behaviour. The
-# last line is 'N passed, 0 failed'.
+# It takes target/staticlib/libchthonyra.a as it is, and has it built where it is absent. The driver and the model are
+# compiled with gcc's checkers of addresses and of undefined behaviour; the archive is not, and is held by the guard pages.
+# The last line is 'N passed, 0 failed'.
 set -euo pipefail
 cd "$(dirname "$0")/.."
 

@@ -1,6 +1,5 @@
 -- `chthonyra::chthonyra_ask` meets its contract: the answer, as numbers, and its memory. Assumes nothing.
-use mathlib.Core.Path.{ap, _∙_}
-use Rattle.chthonyra.specs.Told.{answerTold}
+use mathlib.Core.Path.{refl}
 use borrow.Author.Needs.{needs}
 use Rattle.chthonyra.proofs.chthonyra_ask.Statement.{statement}
 use Rattle.chthonyra.proofs.chthonyra_ask.Tie as tie
@@ -18,7 +17,7 @@ same-length-2 : tie.Need-same-length-2
 same-length-2 c = search needs
 
 returns : tie.Need-returns
-returns c = let a = c .before .before .before .before .ask .ensures in (c .answer-told .ensures ∙ ap answerTold (a .0), a .1, a .2)
+returns c = let a = c .before .before .before .before .ask .ensures in (rw (c .answer-told .ensures, a .0) refl, a .1, a .2)
 
 pub chthonyra-ask-spec : {M : Type 1} → statement M
 chthonyra-ask-spec =
