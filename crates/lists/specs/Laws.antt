@@ -16,4 +16,5 @@ pub mod Exchange
 pub mod Top
 pub mod Pieces
 pub mod Ranks
+pub mod Once
 pub mod Examples

@@ -3,12 +3,12 @@
 -- Assumes nothing.
 use mathlib.Core.Path.{_≡_, ap}
 use mathlib.Core.Bool.{true, false, true≢false, false≢true}
-use Prim.Native.Nat.{ℕ, suc, _+_, _≤_, _<_}
+use Prim.Native.Nat.{ℕ, zero, suc, _+_, _≤_, _<_}
 use native.Mathlib.Omega.{arith}
 use native.Mathlib.Decide.{decLt}
 use borrow.Author.Tests.{ltb-true, ltb-false, lt-ltb, le-ltb}
 use lib.Dec.{leb→le, le→leb, ltb→lt, lt→ltb}
-use lib.IntN.{ℤ, pos, negsuc, subℕ, _+ℤ_}
+use lib.IntN.{ℤ, pos, negsuc, subℕ, _+ℤ_, _-ℤ_}
 use lib.Signed.{ltZ, _≤ℤ_, _<ℤ_, leZ-yes, ltZ-yes}
 
 -- what z has above zero
@@ -101,6 +101,13 @@ sub-is a b = elim (decLt a b) [
 pub plus-is : (z : ℤ) (w : ℕ) → up (z +ℤ pos w) + down z ≡ up z + w + down (z +ℤ pos w)
 plus-is (pos a) w = omega arith
 plus-is (negsuc a) w = omega (arith, sub-is w (suc a))
+
+-- a difference with a natural
+pub minus-is : (z : ℤ) (w : ℕ) → up (z -ℤ pos w) + down z + w ≡ up z + down (z -ℤ pos w)
+minus-is (pos a) zero = omega arith
+minus-is (pos a) (suc w) = omega (arith, sub-is a (suc w))
+minus-is (negsuc a) zero = omega (arith, sub-is 0 (suc a))
+minus-is (negsuc a) (suc w) = omega arith
 
 -- x at most w above y is at most y + w
 pub within-plus : (w : ℕ) (x y : ℤ) → Within w x y → x ≤ℤ (y +ℤ pos w)

@@ -1,0 +1,8 @@
+-- What the theorems rest on.
+pub mod Granted
+pub mod Runs
+pub mod Ancestors
+pub mod Slacks
+pub mod Ordered
+pub mod Reported
+pub mod Widened

@@ -1,0 +1,1 @@
+// The customer's demands as theorems, in specs/; no code.
