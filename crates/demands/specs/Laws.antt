@@ -6,3 +6,9 @@ pub mod Slacks
 pub mod Ordered
 pub mod Reported
 pub mod Widened
+pub mod Turns
+pub mod TableTests
+pub mod TableOrder
+pub mod TextTests
+pub mod TextOrder
+pub mod Refused

@@ -6,6 +6,8 @@ pub mod Column
 pub mod Sum
 pub mod Count
 pub mod Chosen
+pub mod Means
+pub mod Decides
 pub mod Unmet
 pub mod Scan
 pub mod Cut
