@@ -3,7 +3,7 @@
 --
 -- Of every answered asking, over the room that it leaves. Paths, credit, slack and order are those of `Definitions`.
 -- Assumes nothing.
-use mathlib.Core.Path.{_≡_, ap, _∙_}
+use mathlib.Core.Path.{_≡_, _∙_}
 use mathlib.Core.List.{List}
 use Prim.Native.Nat.{ℕ, _*_, min}
 use lib.ListN.{length, take, drop}
@@ -30,9 +30,10 @@ pub record Reported (t : Table) (mode k : ℕ) (a : Answered t mode k) (creditOf
   pub all : List Path
   pub listed : AllPaths (structure t) slackOf all
   pub only : (l : List Path) → AllPaths (structure t) slackOf l → l ≡ all
-  -- "exactly the first k, or all if fewer"
-  pub given : a .rows ≡ min k (length all)
-  pub rows : roomRows (a .rows) (rowLength (pinCount t)) (a .room′) ≡ each (rowOf (structure t) creditOf slackOf) (take k all)
+  -- "exactly the first k, or all if fewer": of any such list, so no other rows are
+  pub given : (l : List Path) → AllPaths (structure t) slackOf l → a .rows ≡ min k (length l)
+  pub rows : (l : List Path) → AllPaths (structure t) slackOf l
+      → roomRows (a .rows) (rowLength (pinCount t)) (a .room′) ≡ each (rowOf (structure t) creditOf slackOf) (take k l)
   -- "Places after the last row stay."
   pub stay : drop (a .rows * rowLength (pinCount t)) (a .room′) ≡ drop (a .rows * rowLength (pinCount t)) (a .room)
 
@@ -47,14 +48,13 @@ demand-2 t mode k a creditOf slackOf d =
     let x = times t in
     let ok = accepted t (g .checked) .sound in
     let r = accepted t (g .checked) .ranged in
-    let h = ranked-listed m s x ok r creditOf slackOf d in
     record {
       order = strict-total s ok slackOf;
       all = ranked m s x;
-      listed = h;
+      listed = ranked-listed m s x ok r creditOf slackOf d;
       only = listed-only m s x ok r creditOf slackOf d;
-      given = g .counted ∙ rows-many m s x ok r creditOf slackOf d k (ranked m s x) h;
-      rows = g .stand ∙ rows-are m s x ok r creditOf slackOf d k (ranked m s x) h;
+      given = λ l h. g .counted ∙ rows-many m s x ok r creditOf slackOf d k l h;
+      rows = λ l h. g .stand ∙ rows-are m s x ok r creditOf slackOf d k l h;
       stay = g .stays;
     }
 

@@ -12,3 +12,4 @@ pub mod TableOrder
 pub mod TextTests
 pub mod TextOrder
 pub mod Refused
+pub mod Printing

@@ -13,6 +13,7 @@ pub mod Order
 pub mod Columns
 pub mod Accepted
 pub mod Wider
+pub mod Unwritten
 pub mod Lines
 pub mod Written
 pub mod Steps

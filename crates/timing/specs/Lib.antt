@@ -19,6 +19,3 @@ pub mod Contracts
 pub mod Value
 pub mod Sheet
 pub mod Laws
-pub mod Demand1
-pub mod Demand2
-pub mod Demand3

@@ -72,15 +72,13 @@ wider-times t u w =
 pub moved-is : (t u : Table) → movedTimes (structure t) (times t) (times u) ≡ moved t u
 unfolding movedTimes moved above times
 moved-is t u =
-    rw (
-      pins-is t,
-      arcs-is t,
-      tests-is t,
+    rw (pins-is t, arcs-is t, tests-is t)
+    (omega (
+      arith,
       sum-plus (λ (p : ℕ). pinTime t early p - pinTime u early p) (λ (p : ℕ). pinTime u late p - pinTime t late p) (below (pinCount t)),
       sum-plus (λ (a : ℕ). arcTime t early a - arcTime u early a) (λ (a : ℕ). arcTime u late a - arcTime t late a) (below (arcCount t)),
       sum-plus (λ (j : ℕ). testSetup u j - testSetup t j) (λ (j : ℕ). testHold u j - testHold t j) (below (testCount t)),
-    )
-    (omega arith)
+    ))
 
 -- the rows of the two tables
 pub rows-move : (t u : Table) → tableFault t ≡ none → tableFault u ≡ none → structure t ≡ structure u → WiderTimes (structure t) (times t) (times u) → (mode k : ℕ)

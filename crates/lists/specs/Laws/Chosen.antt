@@ -1,11 +1,11 @@
--- The law of the order of refusals: "Each is given exactly when its condition holds and none earlier in the order does." It holds of
--- every list of grounds (`first-exactly`), and a list may be judged part by part (`met-append`, `met-front`).
+-- The first ground that is met: one ground after the other, and part by part (`met-append`, `met-front`). That each is given exactly when its condition holds
+-- and none earlier in the order does is `decides-exactly` of `Laws.Decides`.
 -- Assumes nothing.
 use mathlib.Core.Path.{_≡_, refl, sym, ap, _∙_}
 use mathlib.Core.Logic.{inl, inr, _↔_}
 use mathlib.Core.Bool.{Bool, true, false, false≢true}
 use mathlib.Core.List.{List, [], _∷_, _++_, append-nil}
-use mathlib.Core.Option.{Option, none, some, Option·some-injective}
+use mathlib.Core.Option.{Option, none, some}
 use Prim.Native.Nat.{ℕ, zero, suc, _<_}
 use native.Mathlib.Nat.{not-suc-le-zero}
 use native.Mathlib.Omega.{arith}
@@ -65,62 +65,14 @@ module _ {X : Type 0} where
   not-both {ℓ} : {Y : Type ℓ} (r : X) → none ≡ some r → Y
   not-both r e = let q : _≡_ {A = ℕ} 0 1 = cc in absurd (omega arith)
 
-  -- ---- the law
-
-  -- r is given by a ground that is met, and none before it is
-  pub record FirstMet (gs : List (Ground X)) (r : X) : Type 0 where
-    pub before : List (Ground X)
-    pub this : Ground X
-    pub behind : List (Ground X)
-    pub order : gs ≡ before ++ this ∷ behind
-    pub is-met : this .met ≡ true
-    pub says : this .gives ≡ r
-    pub none-before : (g : Ground X) → In g before → g .met ≡ false
+  -- ---- nothing is given
 
   abbrev Fails : Ground X → Type 0
   Fails g = g .met ≡ false
 
-  met-gives : (gs : List (Ground X)) (r : X) → firstMet gs ≡ some r → FirstMet gs r
-  unfolding firstMet
-  met-gives [] r e = not-both r e
-  met-gives (g ∷ gs) r e =
-      met-cases (λ o. o ≡ some r → FirstMet (g ∷ gs) r) g gs
-      (λ q e. record {
-        before = [];
-        this = g;
-        behind = gs;
-        order = refl;
-        is-met = q;
-        says = Option·some-injective (g .gives) r e;
-        none-before = λ h i. absurd i;
-      })
-      (λ q e.
-      let f = met-gives gs r e in
-      record {
-        before = g ∷ f .before;
-        this = f .this;
-        behind = f .behind;
-        order = ap (λ (l : List (Ground X)). g ∷ l) (f .order);
-        is-met = f .is-met;
-        says = f .says;
-        none-before = all-of Fails (g ∷ f .before) (q, of-all Fails (f .before) (f .none-before));
-      })
-      e
-
   met-after : (front back : List (Ground X)) → ((g : Ground X) → In g front → g .met ≡ false) → firstMet (front ++ back) ≡ firstMet back
   met-after [] back h = refl
   met-after (g ∷ front) back h = met-on g (front ++ back) (h g (inl refl)) ∙ met-after front back (λ f i. h f (inr i))
-
-  -- "Each is given exactly when its condition holds and none earlier in the order does."
-  pub first-exactly : (gs : List (Ground X)) (r : X) → (firstMet gs ≡ some r) ↔ FirstMet gs r
-  first-exactly gs r = (
-    met-gives gs r,
-    λ f.
-        ap firstMet (f .order)
-        ∙ met-after (f .before) (f .this ∷ f .behind) (f .none-before)
-        ∙ met-here (f .this) (f .behind) (f .is-met)
-        ∙ ap some (f .says),
-  )
 
   all-fail : (gs : List (Ground X)) → firstMet gs ≡ none → All Fails gs
   all-fail [] e = tt

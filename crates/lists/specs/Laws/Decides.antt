@@ -1,4 +1,4 @@
--- The law of the order of refusals once more, with sentences in place of tests: "Each is given exactly when its condition holds and none earlier in the order does."
+-- The law of the order of refusals, with sentences in place of tests: "Each is given exactly when its condition holds and none earlier in the order does."
 --
 -- `Decides C o`: o is the first, in the order `Earlier`, of those of which the condition C holds, or none. A list of grounds decides part by part: one ground, one list
 -- behind another, one list for each number. Where the order leaves no two unordered, what is decided is exactly what the sentence says (`decides-exactly`).

@@ -1,19 +1,17 @@
--- The order of the rows: `ranked` holds every path once, in the stated order, and no other list does.
+-- The order of the rows: `ranked` holds every path once, in the stated order. That no other list does is in the crate `demands`.
 -- Assumes nothing.
 use mathlib.Core.Path.{_≡_, sym, ap, _∙_}
-use mathlib.Core.Logic.{_⊎_, _↔_}
-use mathlib.Core.List.{List}
+use mathlib.Core.Logic.{_⊎_}
 use Prim.Native.Nat.{ℕ, min}
-use lib.ListN.{length, drop, length-take}
+use lib.ListN.{length, length-take}
 use lib.Signed.{_<ℤ_}
 use Rattle.lists.specs.Laws.Member.{In, Pairs}
-use Rattle.lists.specs.Laws.Ranking.{Perm, perm-in, perm-back, perm-length, perm-rank, lex-rank, lex-asym, one-order, pairs-cut}
+use Rattle.lists.specs.Laws.Ranking.{Perm, perm-in, perm-back, perm-length, perm-rank, lex-rank, lex-asym}
 use Rattle.timing.specs.Structure.{Structure, Times}
 use Rattle.timing.specs.Paths.{Path, paths}
 use Rattle.timing.specs.Slack.{Mode, slack, ranked}
 use Rattle.timing.specs.Rows.{firstPaths}
-use Rattle.timing.specs.Laws.Sound.{Sound}
-use Rattle.timing.specs.Laws.Listed.{IsPath, exactly-paths, Tie, tie-asym, paths-order}
+use Rattle.timing.specs.Laws.Listed.{Tie, tie-asym, paths-order}
 
 -- "Smaller slack first; then smaller test number; then the two arc lists are read backwards from the data pin, and at the first difference the smaller
 -- arc number comes first."
@@ -33,21 +31,9 @@ module _ (m : Mode) (s : Structure) (x : Times) where
   pub ahead-asym : (p q : Path) → Ahead m s x p q → Ahead m s x q p → ⊥
   ahead-asym = lex-asym (slack m s x) Tie tie-asym
 
-  -- a list that has exactly the paths, in the stated order, is `ranked`
-  pub ranked-only : Sound s → (l : List Path) → ((p : Path) → In p l ↔ IsPath s p) → Pairs (Ahead m s x) l → ranked m s x ≡ l
-  ranked-only ok l h o =
-      one-order (Ahead m s x) ahead-asym (ranked m s x) l ranked-order o
-      (λ p i. h p .1 (exactly-paths s ok p .0 (perm-in p (perm-back ranked-all) i)))
-      (λ p i. perm-in p ranked-all (exactly-paths s ok p .1 (h p .0 i)))
-
   pub first-count : (k : ℕ) → length (firstPaths m s x k) ≡ min k (length (paths s))
   unfolding firstPaths
   first-count k = length-take k (ranked m s x) ∙ ap (min k) (sym (perm-length ranked-all))
-
-  -- each of the first k stands ahead of every other path
-  pub first-ahead : (k : ℕ) (p q : Path) → In p (firstPaths m s x k) → In q (drop k (ranked m s x)) → Ahead m s x p q
-  unfolding firstPaths
-  first-ahead k = pairs-cut (Ahead m s x) k (ranked m s x) ranked-order
 
   -- what is ranked is a path
   pub ranked-paths : (p : Path) → In p (ranked m s x) → In p (paths s)

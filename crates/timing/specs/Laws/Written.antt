@@ -1,9 +1,9 @@
--- The rows as numbers: each has P + 5 of them, and as many rows are given as the smaller of k and the number of paths. So a room of k × (P + 5) holds them.
+-- The rows as numbers: each has P + 5 of them.
 -- Assumes nothing.
 use mathlib.Core.Path.{_≡_, refl, sym, _∙_}
 use mathlib.Core.Logic.{inl, inr}
 use mathlib.Core.List.{List, [], _∷_, reverse}
-use Prim.Native.Nat.{ℕ, zero, suc, _*_, _-_, _<_, min}
+use Prim.Native.Nat.{ℕ, zero, suc, _*_, _-_, _<_}
 use native.Mathlib.Nat.{not-suc-le-zero}
 use native.Mathlib.Omega.{arith}
 use lib.ListN.{length, getD, take, replicate, length-append, length-replicate, length-reverse}
@@ -18,7 +18,7 @@ use Rattle.timing.specs.Slack.{Mode, slack, ranked}
 use Rattle.timing.specs.Rows.{rowLength, row, firstPaths, rows}
 use Rattle.timing.specs.Laws.Sound.{Sound}
 use Rattle.timing.specs.Laws.Bounds.{path-arcs}
-use Rattle.timing.specs.Laws.Order.{first-count, ranked-paths}
+use Rattle.timing.specs.Laws.Order.{ranked-paths}
 
 -- "Rows are P + 5 numbers"
 pub row-length : (m : Mode) (s : Structure) (x : Times) → Sound s → (p : Path) → In p (paths s) → length (row m s x p) ≡ rowLength (pins s)
@@ -31,11 +31,6 @@ row-length m s x ok p h =
     omega (arith, few .few-arcs)
 
 module _ (m : Mode) (s : Structure) (x : Times) (k : ℕ) where
-  -- "Rows given: the smaller of k and the number of paths."
-  pub rows-given : length (rows m s x k) ≡ min k (length (paths s))
-  unfolding rows
-  rows-given = length-each (row m s x) (firstPaths m s x k) ∙ first-count m s x k
-
   -- all their numbers
   pub rows-length : Sound s → length (gather (λ (r : List ℤ). r) (rows m s x k)) ≡ length (rows m s x k) * rowLength (pins s)
   unfolding rows firstPaths each gather
