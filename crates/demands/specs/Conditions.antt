@@ -1,7 +1,7 @@
 -- The refusal table of 01 as sentences: for each number when it is due, and the order in which they are looked for. No test of the code is named here.
 --
--- A refusal is a case of the enum `Refusal`, which stands for 01's number and place (`Refusals.numberOf`, `placeOf`). Of a text, a table, an asking or a ranked list
--- the conditions of the other operations' numbers never hold.
+-- A refusal is a case of the enum `Refusal`, which stands for 01's number and place (`Refusals.numberOf`, `placeOf`). Of a text, a table, an asking or a
+-- ranked list the conditions of the other operations' numbers never hold.
 -- Assumes nothing.
 use mathlib.Core.Path.{_≡_}
 use mathlib.Core.Logic.{_⊎_, _≢_, _↔_}
@@ -11,7 +11,7 @@ use Rattle.lists.specs.Laws.Member.{In}
 use Rattle.timing.specs.declared.Refusal.{Refusal}
 use Rattle.timing.specs.declared.Refusal.the-variants.{TextLong, LineNotDue, FieldCount, FieldForm, TableRoom, TableHeader, PinNumbers, RootCount, ArcEnds, ArcKinds, ArcRange, ArcsInto, TestNumbers, ModeOrK, RowRoom, ListCount}
 use Rattle.timing.specs.Refusals.{numberOf, placeOf}
-use Rattle.timing.specs.Kinds.{R, B, K, I, D, Pair, _to_, allowed}
+use Rattle.timing.specs.Kinds.{R, B, K, I, D, _to_, allowed}
 use Rattle.timing.specs.Table.{Table, pinCount, arcCount, testCount, periodOf, early, late, pinKind, pinTime, arcFrom, arcTo, arcTime, testClock, testData, testSetup, testHold}
 use Rattle.timing.specs.Check.{arcsInto}
 

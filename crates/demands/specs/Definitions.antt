@@ -1,7 +1,9 @@
--- What the demands speak of, in the words of the documents: an asking that was answered, paths, arrivals, slack before credit (Definition 1 of 004), credit (Definition 2), the order of rows.
+-- What the demands speak of, in the words of the documents: an asking that was answered, paths, arrivals, slack before credit (Definition 1 of 004), credit
+-- (Definition 2), the order of rows.
 --
--- Nothing here computes a route, a list of paths or a ranking: arrivals are any numbers that fit the sentence of 01, a common ancestor is whatever pin is one, and
--- the list of all paths is whatever list has exactly them. So it can be read without the definitions that the code is proved against; that these agree is proved.
+-- Nothing here computes a route, a list of paths or a ranking: arrivals are any numbers that fit the sentence of 01, a common ancestor is whatever pin is one,
+-- and the list of all paths is whatever list has exactly them. So it can be read without the definitions that the code is proved against; that these agree
+-- is proved.
 -- Assumes nothing.
 use mathlib.Core.Path.{_≡_}
 use mathlib.Core.Logic.{_⊎_, _≢_, _↔_}

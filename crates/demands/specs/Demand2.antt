@@ -60,7 +60,8 @@ demand-2 t mode k a creditOf slackOf d =
 
 -- and there are such: those that the operations are proved to give
 pub demand-2-defined : (t : Table) (mode k : ℕ) → Answered t mode k
-    → ByDefinition (modeOf mode) (structure t) (times t) (λ (p : Path). pos (pathCredit (modeOf mode) (structure t) (times t) p)) (slack (modeOf mode) (structure t) (times t))
+    → ByDefinition (modeOf mode) (structure t) (times t) (λ (p : Path). pos (pathCredit (modeOf mode) (structure t) (times t) p))
+    (slack (modeOf mode) (structure t) (times t))
 demand-2-defined t mode k a =
     let c = granted t mode k a .checked in
     defined (structure t) (accepted t c .sound) (times t) (accepted t c .ranged) (modeOf mode)

@@ -4,7 +4,7 @@
 --
 -- Of every two answered askings, over what they return and the rooms that they leave. What is supposed of the designs, and the sum, are in `Wider`.
 -- Assumes nothing.
-use mathlib.Core.Path.{_≡_, sym, ap, _∙_}
+use mathlib.Core.Path.{_≡_, sym, _∙_}
 use Prim.Native.Nat.{ℕ, _+_, _*_, _<_}
 use lib.ListN.{getD}
 use lib.IntN.{ℤ, pos, _+ℤ_}

@@ -1,4 +1,5 @@
--- The demands of the order, each a theorem in a file of its own over what the operations return and write; the definitions that they are stated with beside them.
+-- The demands of the order, each a theorem in a file of its own over what the operations return and write; beside them the definitions that they are stated
+-- with.
 pub mod Definitions
 pub mod Wider
 pub mod Conditions

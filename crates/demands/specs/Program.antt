@@ -1,8 +1,8 @@
 -- Reading and asking together: what `toppaths` prints is a function of the text alone, `Printed.printed`.
 --
--- The contract of `toppaths::answer` is that its bytes are `printed` of the text. Here it is said what these are, over whatever the contracts of reading and asking
--- allow and whatever the memory held that was lent to them: "It prints for each row `path`, rank, slack, credit, test, start and the arcs from the start; then
--- `end`, rows and total; tabs between. On a refusal it prints one line only: `refused`, number, place, with tabs between."
+-- The contract of `toppaths::answer` is that its bytes are `printed` of the text. Here it is said what these are, over whatever the contracts of reading and
+-- asking allow and whatever the memory held that was lent to them: "It prints for each row `path`, rank, slack, credit, test, start and the arcs from the
+-- start; then `end`, rows and total; tabs between. On a refusal it prints one line only: `refused`, number, place, with tabs between."
 -- Assumes nothing.
 use mathlib.Core.Path.{_≡_, _∙_}
 use mathlib.Core.List.{List, [], _∷_, _++_}

@@ -35,7 +35,8 @@ module _ (s : Structure) (ok : Sound s) where
       top v (inl e) = itself e
       top v (inr h) = absurd h
 
-      step : (v a : ℕ) → a < arcs s → enters s a ≡ v → (In u (route s (leaves s a)) → Ancestor s u (leaves s a)) → In u (v ∷ route s (leaves s a)) → Ancestor s u v
+      step : (v a : ℕ) → a < arcs s → enters s a ≡ v → (In u (route s (leaves s a)) → Ancestor s u (leaves s a)) → In u (v ∷ route s (leaves s a))
+          → Ancestor s u v
       step v a b e ih (inl q) = itself q
       step v a b e ih (inr h) = over a b e (ih h)
 

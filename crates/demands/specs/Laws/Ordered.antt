@@ -1,9 +1,8 @@
--- The order of rows is a strict total order on paths. Of two walks back from one pin neither is the beginning of the other, since a K or an I is not entered by what
--- carries data: so they differ somewhere, or are one.
+-- The order of rows is a strict total order on paths. Of two walks back from one pin neither is the beginning of the other, since a K or an I is not entered
+-- by what carries data: so they differ somewhere, or are one.
 -- Assumes nothing.
 use mathlib.Core.Path.{_≡_, refl, sym, ap₂, _∙_}
 use mathlib.Core.Logic.{_⊎_, inl, inr, _≢_}
-use mathlib.Core.Bool.{true, false}
 use mathlib.Core.List.{List, [], _∷_}
 use Prim.Native.Nat.{ℕ, _<_}
 use native.Mathlib.Omega.{arith}

@@ -1,10 +1,9 @@
 -- What the program prints, from the contracts of reading and asking: the table that was read is lent on, and the rows printed are those of the room.
 -- Assumes nothing.
-use mathlib.Core.Path.{_≡_, refl, sym, ap, _∙_}
-use mathlib.Core.List.{List, []}
-use mathlib.Core.Option.{Option, none, some}
+use mathlib.Core.Path.{_≡_, sym, ap, _∙_}
+use mathlib.Core.List.{List}
+use mathlib.Core.Option.{none}
 use Prim.Native.Nat.{ℕ}
-use native.Mathlib.Omega.{arith}
 use lib.ListN.{length, take}
 use lib.IntN.{ℤ}
 use Rattle.lists.specs.Laws.Write.{written-front}

@@ -1,14 +1,13 @@
 -- From what an order decides to what is demanded: an operation that says what was decided refuses as demanded.
 -- Assumes nothing.
-use mathlib.Core.Path.{_≡_, refl, sym, ap, _∙_}
+use mathlib.Core.Path.{_≡_, refl, sym, _∙_}
 use mathlib.Core.Logic.{_⊎_, inl, inr, _↔_}
-use mathlib.Core.List.{List, []}
+use mathlib.Core.List.{List}
 use mathlib.Core.Option.{Option, none, some, Option·some-injective}
 use Prim.Native.Nat.{ℕ}
 use native.Mathlib.Omega.{arith}
 use lib.ListN.{length}
 use lib.IntN.{ℤ}
-use Rattle.lists.specs.Choice.{firstMet}
 use Rattle.lists.specs.Laws.Means.{means-less}
 use Rattle.lists.specs.Laws.Decides.{Decides, decides-one, decides-exactly}
 use Rattle.timing.specs.declared.Refusal.{Refusal}
@@ -22,7 +21,6 @@ use Rattle.timing.specs.declared.Answer.the-variants.{Given, Refused as NotGive
 use Rattle.timing.specs.declared.Candidate.{Candidate}
 use Rattle.timing.specs.declared.Entered.{Entered}
 use Rattle.timing.specs.declared.Entered.the-variants.{Count, Refused as NotEntered}
-use Rattle.timing.specs.Refusals.{checkedOf}
 use Rattle.timing.specs.Table.{Table}
 use Rattle.timing.specs.Field.{Bytes}
 use Rattle.timing.specs.Check.{tableFault}
@@ -95,24 +93,27 @@ check-outcome t r a =
     accepted none e h = e
     accepted (some p) e h = let b = rw e at a in absurd (let z : _≡_ {A = ℕ} 0 1 = cc in omega arith)
 
-pub ask-outcome : (t : Table) (mode k : ℕ) (room : List ℤ) (work : List ℕ) (r : Answer) (room′ : List ℤ) (work′ : List ℕ) → AskAllows t mode k room work r room′ work′
-    → Outcome (askingFault t mode k (length room) (length work)) (λ q. r ≡ NotGiven q) ((rows : ℕ) × (total : ℕ) × (r ≡ Given rows total)) ((room′ ≡ room) × (work′ ≡ work))
-unfolding answer answerOf roomAfter roomOf workAfter workOf
-ask-outcome t mode k room work r room′ work′ a =
-    let o = askingFault t mode k (length room) (length work) in
-    record {
-      says = λ q. (λ h. rw h at (a .0), λ h. said o refl q h);
-      accepts = (λ h. (_, _, rw h at (a .0)), λ h. accepted o refl (h .0) (h .1) (h .2));
-      kept = λ q h. (rw h at (a .1), rw h at (a .2));
-    }
-  where
-    said : (o : Option Refusal) → askingFault t mode k (length room) (length work) ≡ o → (q : Refusal) → r ≡ NotGiven q → askingFault t mode k (length room) (length work) ≡ some q
-    said none e q h = let b = rw e at (a .0) in absurd (let z : _≡_ {A = ℕ} 0 1 = cc in omega arith)
-    said (some p) e q h = let b = rw e at (a .0) in cc
+module _ (t : Table) (mode k : ℕ) (room : List ℤ) (work : List ℕ) where
+  abbrev fault : Option Refusal
+  fault = askingFault t mode k (length room) (length work)
 
-    accepted : (o : Option Refusal) → askingFault t mode k (length room) (length work) ≡ o → (rows total : ℕ) → r ≡ Given rows total → askingFault t mode k (length room) (length work) ≡ none
-    accepted none e rows total h = e
-    accepted (some p) e rows total h = let b = rw e at (a .0) in absurd (let z : _≡_ {A = ℕ} 0 1 = cc in omega arith)
+  pub ask-outcome : (r : Answer) (room′ : List ℤ) (work′ : List ℕ) → AskAllows t mode k room work r room′ work′
+      → Outcome fault (λ q. r ≡ NotGiven q) ((rows : ℕ) × (total : ℕ) × (r ≡ Given rows total)) ((room′ ≡ room) × (work′ ≡ work))
+  unfolding answer answerOf roomAfter roomOf workAfter workOf
+  ask-outcome r room′ work′ a =
+      record {
+        says = λ q. (λ h. rw h at (a .0), λ h. said fault refl q h);
+        accepts = (λ h. (_, _, rw h at (a .0)), λ h. accepted fault refl (h .0) (h .1) (h .2));
+        kept = λ q h. (rw h at (a .1), rw h at (a .2));
+      }
+    where
+      said : (o : Option Refusal) → fault ≡ o → (q : Refusal) → r ≡ NotGiven q → fault ≡ some q
+      said none e q h = let b = rw e at (a .0) in absurd (let z : _≡_ {A = ℕ} 0 1 = cc in omega arith)
+      said (some p) e q h = let b = rw e at (a .0) in cc
+
+      accepted : (o : Option Refusal) → fault ≡ o → (rows total : ℕ) → r ≡ Given rows total → fault ≡ none
+      accepted none e rows total h = e
+      accepted (some p) e rows total h = let b = rw e at (a .0) in absurd (let z : _≡_ {A = ℕ} 0 1 = cc in omega arith)
 
 pub enter-outcome : (list : List Candidate) (count : ℕ) (c : Candidate) (r : Entered) (list′ : List Candidate) → EnterAllows list count c r list′
     → Outcome (enterFault count (length list)) (λ q. r ≡ NotEntered q) ((n : ℕ) × (r ≡ Count n)) (list′ ≡ list)

@@ -1,21 +1,19 @@
--- From the contract of the asking to demand 2: the ranked paths of `timing` are a list of all paths in the stated order, no other list is, and its rows are the rows of
--- the room.
+-- From the contract of the asking to demand 2: the ranked paths of `timing` are a list of all paths in the stated order, no other list is, and its rows are
+-- the rows of the room.
 -- Assumes nothing.
-use mathlib.Core.Path.{_≡_, refl, sym, ap, _∙_}
-use mathlib.Core.Logic.{_⊎_, inl, inr, _≢_, _↔_}
-use mathlib.Core.List.{List, [], _∷_, _++_, reverse}
-use mathlib.Core.Option.{none}
-use Prim.Native.Nat.{ℕ, _*_, _-_, min}
-use lib.ListN.{length, take, replicate, length-take}
-use lib.IntN.{ℤ, pos}
+use mathlib.Core.Path.{_≡_, ap, _∙_}
+use mathlib.Core.Logic.{_≢_, _↔_}
+use mathlib.Core.List.{List}
+use Prim.Native.Nat.{ℕ, min}
+use lib.ListN.{length, take, length-take}
+use lib.IntN.{ℤ}
 use Rattle.lists.specs.Parts.{each}
 use Rattle.lists.specs.Laws.Member.{In, Pairs, pairs-map, in-take, each-cong, length-each}
 use Rattle.lists.specs.Laws.Once.{pairs-members}
-use Rattle.lists.specs.Laws.Ranking.{perm-in, perm-back, one-order}
-use Rattle.timing.specs.Table.{Table}
-use Rattle.timing.specs.Structure.{Structure, pins, Times, structure, times}
-use Rattle.timing.specs.Paths.{Path, start, paths}
-use Rattle.timing.specs.Slack.{Mode, pathCredit, slack, ranked}
+use Rattle.lists.specs.Laws.Ranking.{perm-in, one-order}
+use Rattle.timing.specs.Structure.{Structure, Times}
+use Rattle.timing.specs.Paths.{Path}
+use Rattle.timing.specs.Slack.{Mode, ranked}
 use Rattle.timing.specs.Rows.{row, firstPaths, rows}
 use Rattle.timing.specs.Laws.Sound.{Sound}
 use Rattle.timing.specs.Laws.Ranged.{Ranged}

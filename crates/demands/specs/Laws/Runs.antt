@@ -1,5 +1,5 @@
--- Paths by the sentence of 01 alone, and the walks of `timing`, of which no arc but the last leaves a start: in a sound structure they are the same. A K and an I
--- are not entered by what carries data, so a run that goes on behind one never comes to a start.
+-- Paths by the sentence of 01 alone, and the walks of `timing`, of which no arc but the last leaves a start: in a sound structure they are the same. A K and
+-- an I are not entered by what carries data, so a run that goes on behind one never comes to a start.
 -- Assumes nothing.
 use mathlib.Core.Path.{_≡_, refl}
 use mathlib.Core.Logic.{_⊎_, inl, inr, _≢_, _↔_}
@@ -23,8 +23,8 @@ use Rattle.demands.specs.Definitions.{Runs, IsPath}
 -- what drives a D starts a path or is a D; what drives anything else is an R or a B
 drive-data : (f k : ℕ) → mayDrive f k ≡ true → k ≡ D → (f ≡ K) ⊎ ((f ≡ I) ⊎ (f ≡ D))
 drive-data =
-    drive-cases (λ f k. k ≡ D → (f ≡ K) ⊎ ((f ≡ I) ⊎ (f ≡ D))) (λ e. absurd (omega arith)) (λ e. absurd (omega arith)) (λ e. absurd (omega arith)) (λ e. absurd (omega arith))
-    (λ e. inl refl) (λ e. inr (inl refl)) (λ e. inr (inr refl))
+    drive-cases (λ f k. k ≡ D → (f ≡ K) ⊎ ((f ≡ I) ⊎ (f ≡ D))) (λ e. absurd (omega arith)) (λ e. absurd (omega arith)) (λ e. absurd (omega arith))
+    (λ e. absurd (omega arith)) (λ e. inl refl) (λ e. inr (inl refl)) (λ e. inr (inr refl))
 
 drive-other : (f k : ℕ) → mayDrive f k ≡ true → k ≢ D → (f ≡ R) ⊎ (f ≡ B)
 drive-other =

@@ -1,8 +1,8 @@
--- Arrivals, credit and slack by Definitions 1 and 2 of 004 are those of `timing`, which the engine is proved against: whatever numbers fit the sentences, they are these.
+-- Arrivals, credit and slack by Definitions 1 and 2 of 004 are those of `timing`, which the engine is proved against: whatever numbers fit the sentences,
+-- they are these.
 -- Assumes nothing.
-use mathlib.Core.Path.{_≡_, refl, sym, ap, ap₂, _∙_}
+use mathlib.Core.Path.{_≡_, refl, sym, ap, _∙_}
 use mathlib.Core.Logic.{_⊎_, inl, inr}
-use mathlib.Core.Bool.{true, false}
 use mathlib.Core.List.{List, [], _∷_}
 use Prim.Native.Nat.{ℕ, _+_, _-_, _≤_, _<_}
 use native.Mathlib.Omega.{arith}
@@ -12,17 +12,17 @@ use lib.Dec.{eqb}
 use lib.IntN.{ℤ, pos, subℕ, _+ℤ_, _-ℤ_}
 use Rattle.lists.specs.Choice.{pick}
 use Rattle.lists.specs.Parts.{sum, last}
-use Rattle.lists.specs.Laws.Integer.{up, down, both-within, sub-is, plus-is, minus-is}
-use Rattle.timing.specs.Kinds.{R, B, K, I}
+use Rattle.lists.specs.Laws.Integer.{down, both-within, sub-is, plus-is, minus-is}
+use Rattle.timing.specs.Kinds.{B, K, I}
 use Rattle.timing.specs.Table.{Edge, early, late}
-use Rattle.timing.specs.Structure.{Structure, pins, arcs, tests, kind, leaves, enters, clockPin, dataPin, Times}
-use Rattle.timing.specs.Clock.{into, root, clockArrival, common, pinCredit}
+use Rattle.timing.specs.Structure.{Structure, pins, arcs, kind, leaves, enters, clockPin, dataPin, Times}
+use Rattle.timing.specs.Clock.{into, clockArrival, common, pinCredit}
 use Rattle.timing.specs.Paths.{Path, start}
 use Rattle.timing.specs.Slack.{Mode, forSetup, forHold, startArrival, pathCredit, gain, loss, slack}
 use Rattle.timing.specs.Laws.Sound.{Sound}
-use Rattle.timing.specs.Laws.Routes.{climb-ind, root-is, root-only, Clocked}
+use Rattle.timing.specs.Laws.Routes.{climb-ind, root-only, Clocked}
 use Rattle.timing.specs.Laws.Ranged.{Ranged, clock-order, clock-root, clock-step}
-use Rattle.demands.specs.Definitions.{Runs, IsPath, Arrivals, before, credit, Lowest, Credited, ByDefinition}
+use Rattle.demands.specs.Definitions.{Runs, IsPath, Arrivals, before, credit, Credited, ByDefinition}
 use Rattle.demands.specs.Laws.Ancestors.{into-clocked, ancestor-in, ancestor-clocked, common-lowest, lowest-is}
 
 -- ---- sums of integers, term by term
@@ -147,7 +147,8 @@ module _ (s : Structure) (ok : Sound s) (x : Times) where
 
     credit-at : (u : ℕ) → u < pins s → Clocked s ok u → credit at u ≡ pos (pinCredit s x u)
     unfolding credit pinCredit
-    credit-at u l c = rw (clock-at at h late u l c, clock-at at h early u l c) (less (clockArrival late s x u) (clockArrival early s x u) (clock-order s ok x r u))
+    credit-at u l c =
+        rw (clock-at at h late u l c, clock-at at h early u l c) (less (clockArrival late s x u) (clockArrival early s x u) (clock-order s ok x r u))
 
     from-K : kind s o1 ≡ K → pos (pathCredit m s x p) ≡ credit at (common s o1 o2)
     unfolding pathCredit pick
@@ -155,7 +156,9 @@ module _ (s : Structure) (ok : Sound s) (x : Times) where
         let e = ends p i in
         let low = common-lowest s ok o1 o2 (e .start-in) (e .clock-in) (inr (inr k)) (inr (inr (e .clock-kind))) in
         rw (eq-eqb _ _ k)
-        (sym (credit-at (common s o1 o2) (ancestor-in s ok (common s o1 o2) (e .start-in) (low .of-first)) (ancestor-clocked s ok (common s o1 o2) (inr (inr k)) (low .of-first))))
+        (sym
+        (credit-at (common s o1 o2) (ancestor-in s ok (common s o1 o2) (e .start-in) (low .of-first))
+        (ancestor-clocked s ok (common s o1 o2) (inr (inr k)) (low .of-first))))
 
     from-I : kind s o1 ≡ I → pathCredit m s x p ≡ 0
     unfolding pathCredit pick

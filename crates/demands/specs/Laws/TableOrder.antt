@@ -5,13 +5,11 @@ use mathlib.Core.Logic.{_⊎_, inl, inr, ⊎-elim}
 use mathlib.Core.List.{List, [], _∷_, _++_}
 use Prim.Native.Nat.{ℕ, _≤_, _<_}
 use native.Mathlib.Omega.{arith}
-use lib.ListN.{length}
 use Rattle.lists.specs.Choice.{Ground, ground, firstMet}
-use Rattle.lists.specs.Parts.{below, each, gather}
-use Rattle.lists.specs.Laws.Decides.{Decides, NotLater, decides-as, decides-one, decides-append, decides-cons, decides-gather, decides-each}
+use Rattle.lists.specs.Laws.Decides.{Decides, decides-as, decides-one, decides-append, decides-cons, decides-gather, decides-each}
 use Rattle.timing.specs.declared.Refusal.{Refusal}
 use Rattle.timing.specs.declared.Refusal.the-variants.{TextLong, LineNotDue, FieldCount, FieldForm, TableRoom, TableHeader, PinNumbers, RootCount, ArcEnds, ArcKinds, ArcRange, ArcsInto, TestNumbers, ModeOrK, RowRoom, ListCount}
-use Rattle.timing.specs.Refusals.{numberOf, placeOf}
+use Rattle.timing.specs.Refusals.{placeOf}
 use Rattle.timing.specs.Table.{Table, pinCount, arcCount, testCount, early, late, arcTime}
 use Rattle.timing.specs.Check.{headerBad, pinBad, rootsBad, endsBad, kindsBad, delayBad, intoBad, testBad, pinGrounds, arcGround, arcGrounds, intoGrounds, testGrounds, tableGrounds, tableFault}
 use Rattle.timing.specs.Asked.{askingBad, roomBad, askingGrounds, askingFault}
@@ -110,7 +108,8 @@ module _ (t : Table) where
   unfolding arcGround
   arc-decides a =
       decides-cons Earlier not-itself not-back (endsBad t a) (ArcEnds a) _ (ends-means t a)
-      (decides-cons Earlier not-itself not-back (kindsBad t a) (ArcKinds a) _ (kinds-means t a) (decides-one Earlier not-itself (delayBad t a) (ArcRange a) (delay-means t a))
+      (decides-cons Earlier not-itself not-back (kindsBad t a) (ArcKinds a) _ (kinds-means t a)
+      (decides-one Earlier not-itself (delayBad t a) (ArcRange a) (delay-means t a))
       (λ r k. rw (k .0) (inl (inr (refl, inr (refl, omega arith))))))
       (λ r. ⊎-elim (λ k. rw (k .0) (inl (inr (refl, inr (refl, omega arith))))) (λ k. rw (k .0) (inl (inr (refl, inr (refl, omega arith))))))
 
@@ -133,7 +132,8 @@ module _ (t : Table) where
 
   tests-decide : Decides Earlier Tests (firstMet (testGrounds t))
   unfolding testGrounds
-  tests-decide = decides-each Earlier not-itself not-back (testBad t) TestNumbers (TestWrong t) (testCount t) (λ j l. test-means t j) (λ i j l. inr (refl, inl l))
+  tests-decide =
+      decides-each Earlier not-itself not-back (testBad t) TestNumbers (TestWrong t) (testCount t) (λ j l. test-means t j) (λ i j l. inr (refl, inl l))
 
   arcs-turns : Turns Arcs 6 6
   arcs-turns q h = let e = arc-at (h .0) q (h .2) .0 in (omega arith, omega arith)
@@ -141,8 +141,8 @@ module _ (t : Table) where
   -- from 12 on, from arcs on, from 8 on, from pins on, and all
   turns-12 : Turns (λ q. Intos q ⊎ Tests q) 7 8
   turns-12 =
-      turns-either 7 7 8 8 (turns-each ArcsInto (IntoWrong t) (pinCount t) 7 (λ i. refl)) (turns-each TestNumbers (TestWrong t) (testCount t) 8 (λ i. refl)) (omega arith)
-      (omega arith) (omega arith)
+      turns-either 7 7 8 8 (turns-each ArcsInto (IntoWrong t) (pinCount t) 7 (λ i. refl)) (turns-each TestNumbers (TestWrong t) (testCount t) 8 (λ i. refl))
+      (omega arith) (omega arith) (omega arith)
 
   turns-9 : Turns (λ q. Arcs q ⊎ Intos q ⊎ Tests q) 6 8
   turns-9 = turns-either 6 6 7 8 arcs-turns turns-12 (omega arith) (omega arith) (omega arith)
@@ -160,9 +160,11 @@ module _ (t : Table) where
   some-decides : Decides Earlier Some (firstMet (tableGrounds t))
   unfolding tableGrounds
   some-decides =
-      decides-turns 3 3 4 8 (ground (headerBad t) TableHeader ∷ []) _ (turns-one TableHeader) turns-7 (omega arith) (decides-one Earlier not-itself (headerBad t) TableHeader (header-means t))
+      decides-turns 3 3 4 8 (ground (headerBad t) TableHeader ∷ []) _ (turns-one TableHeader) turns-7 (omega arith)
+      (decides-one Earlier not-itself (headerBad t) TableHeader (header-means t))
       (decides-turns 4 4 5 8 (pinGrounds t) _ (turns-each PinNumbers (PinWrong t) (pinCount t) 4 (λ i. refl)) turns-8 (omega arith) pins-decide
-      (decides-turns 5 5 6 8 (ground (rootsBad t) RootCount ∷ []) _ (turns-one RootCount) turns-9 (omega arith) (decides-one Earlier not-itself (rootsBad t) RootCount (roots-means t))
+      (decides-turns 5 5 6 8 (ground (rootsBad t) RootCount ∷ []) _ (turns-one RootCount) turns-9 (omega arith)
+      (decides-one Earlier not-itself (rootsBad t) RootCount (roots-means t))
       (decides-turns 6 6 7 8 (arcGrounds t) _ arcs-turns turns-12 (omega arith) arcs-decide
       (decides-turns 7 7 8 8 (intoGrounds t) (testGrounds t) (turns-each ArcsInto (IntoWrong t) (pinCount t) 7 (λ i. refl))
       (turns-each TestNumbers (TestWrong t) (testCount t) 8 (λ i. refl)) (omega arith) intos-decide tests-decide))))

@@ -1,7 +1,7 @@
 -- What the tests of a table and of an asking mean: each passes exactly when the sentence of 01's refusal table holds.
 -- Assumes nothing.
-use mathlib.Core.Path.{_≡_, refl, sym, ap, ap₂, _∙_}
-use mathlib.Core.Logic.{_⊎_, inl, inr, ⊎-elim, _≢_, _↔_}
+use mathlib.Core.Path.{_≡_, refl}
+use mathlib.Core.Logic.{_⊎_, inl, inr, _≢_}
 use mathlib.Core.Bool.{Bool, true, false, not, _&&_, _||_}
 use mathlib.Core.List.{List, [], _∷_}
 use Prim.Native.Nat.{ℕ, zero, suc, _*_, _≤_, _<_}
@@ -11,9 +11,8 @@ use borrow.Author.Tests.{eq-eqb, eqb-true}
 use lib.Dec.{eqb, leb, ltb}
 use lib.ListN.{length}
 use Rattle.lists.specs.Parts.{below, those}
-use Rattle.lists.specs.Laws.Cases.{and-both}
 use Rattle.lists.specs.Laws.Means.{Means, means-as, means-not, means-or, means-and, means-less, means-most, means-same, means-over, means-least}
-use Rattle.lists.specs.Laws.Member.{In, All, Pairs, in-those, into-those, in-below, into-below, in-any, pairs-those, pairs-below}
+use Rattle.lists.specs.Laws.Member.{In, Pairs, in-one, in-those, into-those, in-below, into-below, in-any, pairs-those, pairs-below}
 use Rattle.timing.specs.Limits.{mostPins, mostArcs, mostTests, mostTime, mostK, workLength}
 use Rattle.timing.specs.Kinds.{R, B, K, I, D, hasTimes, Pair, _to_, allowed, mayDrive}
 use Rattle.timing.specs.Table.{Table, pinCount, arcCount, testCount, periodOf, lengthFor, early, late, pinKind, pinTime, arcFrom, arcTo, arcTime, testClock, testData, testSetup, testHold}
@@ -21,7 +20,7 @@ use Rattle.timing.specs.Check.{headerBad, rangeBad, pinNumbersBad, pinBad, isRo
 use Rattle.timing.specs.Rows.{rowLength}
 use Rattle.timing.specs.Asked.{askingBad, roomBad}
 use Rattle.timing.specs.Laws.Kinds.{drive-cases}
-use Rattle.demands.specs.Conditions.{InLimits, HeaderWrong, BadRange, PinWrong, OneRoot, EndsWrong, KindsWrong, IntoWrong, IsPin, TestWrong, AskingWrong, RoomShort}
+use Rattle.demands.specs.Conditions.{HeaderWrong, BadRange, PinWrong, OneRoot, EndsWrong, KindsWrong, IntoWrong, IsPin, TestWrong, AskingWrong, RoomShort}
 
 -- neither of two is not both
 not-and : (a b : Bool) → not (a && b) ≡ (not a || not b)
@@ -36,7 +35,11 @@ header-means t =
     means-or
     (means-as
     (means-not
-    (means-and (means-and (means-and (means-and (means-and (means-most 1 (pinCount t)) (means-most (pinCount t) mostPins)) (means-most (arcCount t) mostArcs)) (means-most (testCount t) mostTests)) (means-most 1 (periodOf t))) (means-most (periodOf t) mostTime)))
+    (means-and
+    (means-and
+    (means-and (means-and (means-and (means-most 1 (pinCount t)) (means-most (pinCount t) mostPins)) (means-most (arcCount t) mostArcs)) (means-most (testCount t) mostTests))
+    (means-most 1 (periodOf t)))
+    (means-most (periodOf t) mostTime)))
     (λ n h. n (((((h .some-pins, h .few-pins), h .few-arcs), h .few-tests), h .some-period), h .short-period))
     (λ n h.
     n
@@ -124,10 +127,11 @@ roots-means t =
     (means-as (means-same (length l) 1) (λ e. single l e on off)
     (λ o. alone o l on (off (o .root) (o .root-in) (o .is-root)) (pairs-those _<_ (isRoot t) (below (pinCount t)) (pairs-below (pinCount t)))))
   where
-    single : (l : List ℕ) → length l ≡ 1 → ((p : ℕ) → In p l → (p < pinCount t) × (pinKind t p ≡ R)) → ((p : ℕ) → p < pinCount t → pinKind t p ≡ R → In p l) → OneRoot t
+    single : (l : List ℕ) → length l ≡ 1 → ((p : ℕ) → In p l → (p < pinCount t) × (pinKind t p ≡ R)) → ((p : ℕ) → p < pinCount t → pinKind t p ≡ R → In p l)
+        → OneRoot t
     single [] e on off = absurd (omega arith)
     single (x ∷ []) e on off =
-        record { root = x; root-in = on x (inl refl) .0; is-root = on x (inl refl) .1; no-other = λ p h k. Rattle.lists.specs.Laws.Member.in-one p x (off p h k) }
+        record { root = x; root-in = on x (inl refl) .0; is-root = on x (inl refl) .1; no-other = λ p h k. in-one p x (off p h k) }
     single (x ∷ y ∷ l) e on off = absurd (no-way (length l) e)
       where
         no-way : (m : ℕ) → suc (suc m) ≡ 1 → ⊥

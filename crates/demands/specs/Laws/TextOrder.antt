@@ -1,16 +1,16 @@
 -- The refusals of a text in 01's order: what the reader gives is the first whose sentence holds.
 --
--- Each line looks for 2, 3 and 4 in several tests, some of which give the same refusal, and on a pin line 4 is looked for between two tests of 3. `as-three` and its
--- neighbours show that three tests do as well, one for each number; then lines are put one behind another by their places.
+-- Each line looks for 2, 3 and 4 in several tests, some of which give the same refusal, and on a pin line 4 is looked for between two tests of 3. `as-three`
+-- and its neighbours show that three tests do as well, one for each number; then lines are put one behind another by their places.
 -- Assumes nothing.
 use mathlib.Core.Path.{_≡_, refl, sym, ap, _∙_}
-use mathlib.Core.Logic.{_⊎_, inl, inr, ⊎-elim, _≢_}
+use mathlib.Core.Logic.{_⊎_, inl, inr, ⊎-elim}
 use mathlib.Core.Bool.{Bool, true, false, not, _&&_, _||_}
-use mathlib.Core.List.{List, [], _∷_, _++_}
+use mathlib.Core.List.{List, [], _∷_}
 use Prim.Native.Nat.{ℕ, _+_, _-_, _≤_, _<_}
 use native.Mathlib.Omega.{arith}
 use borrow.Author.Tests.{ltb-true, ltb-false}
-use lib.Dec.{eqb, leb, ltb}
+use lib.Dec.{ltb}
 use lib.ListN.{length}
 use Rattle.lists.specs.Choice.{pick, Ground, ground, firstMet}
 use Rattle.lists.specs.Parts.{below, gather}
@@ -20,15 +20,13 @@ use Rattle.lists.specs.Laws.Decides.{Decides, decides-as, decides-none, decides
 use Rattle.timing.specs.declared.Refusal.{Refusal}
 use Rattle.timing.specs.declared.Refusal.the-variants.{TextLong, LineNotDue, FieldCount, FieldForm, TableRoom, TableHeader, PinNumbers, RootCount, ArcEnds, ArcKinds, ArcRange, ArcsInto, TestNumbers, ModeOrK, RowRoom, ListCount}
 use Rattle.timing.specs.Limits.{mostText}
-use Rattle.timing.specs.Kinds.{hasTimes}
-use Rattle.timing.specs.Refusals.{numberOf, placeOf}
-use Rattle.timing.specs.Field.{Bytes, designWord, pinWord, arcWord, testWord, askWord, isMode, noKind}
-use Rattle.timing.specs.Line.{fieldOf, fieldCount, isNumber, numberIn, otherWord, fourNumbers, sizesBad, designLine, pinFields, lineKind, pinLine, fourLine, askLine}
-use Rattle.timing.specs.Text.{whole, lineOf, more, pinsOf, arcsOf, testsOf, linesDue, askNumber, tableLength, dueLine, lineGrounds, dueGrounds, askGrounds, textGrounds, textFault}
+use Rattle.timing.specs.Refusals.{placeOf}
+use Rattle.timing.specs.Field.{Bytes, arcWord, testWord}
+use Rattle.timing.specs.Line.{fieldCount, otherWord, designLine, pinLine, fourLine, askLine}
+use Rattle.timing.specs.Text.{whole, lineOf, more, pinsOf, arcsOf, linesDue, askNumber, tableLength, dueLine, lineGrounds, dueGrounds, askGrounds, textGrounds, textFault}
 use Rattle.demands.specs.Conditions.{turn, Earlier}
-use Rattle.demands.specs.TextConditions.{LineKind, design, pin, arc, test, ask, wordOf, Stands, Due, Missing, FollowsLast, WrongCount, Malformed, TextHolds}
+use Rattle.demands.specs.TextConditions.{LineKind, design, pin, arc, test, ask, wordOf, Stands, Due, Missing, WrongCount, Malformed, TextHolds}
 use Rattle.demands.specs.Laws.Turns.{not-itself, not-back}
-use Rattle.demands.specs.Laws.TableOrder.{Turns, turns-either, turns-one, decides-turns}
 use Rattle.demands.specs.Laws.TextTests.{other-means, stands-means, four-means, sizes-means, mode-means, pin-count-means, pin-form-means}
 
 -- ---- three tests in place of more
@@ -85,35 +83,35 @@ module _ (x : Bytes) where
   unfolding lineGrounds designLine
   design-decides n =
       let l = lineOf x n in
-      rw (five-three (LineNotDue n) (FieldCount n) (FieldForm n) (ltb (whole x) n) (otherWord l designWord) (not (eqb (fieldCount l) 5)) (not (fourNumbers l)) (sizesBad (numberIn l 1) (numberIn l 2) (numberIn l 3)))
+      rw (five-three (LineNotDue n) (FieldCount n) (FieldForm n))
       (line-decides design n _ _ _ (missing-means design n) (means-not (means-same (fieldCount l) 5)) (means-or (four-means l) (sizes-means l)))
 
   pin-decides : (n : ℕ) → Decides Earlier (Line pin n) (firstMet (lineGrounds x n pinLine))
   unfolding lineGrounds pinLine
   pin-decides n =
       let l = lineOf x n in
-      rw (six-three (LineNotDue n) (FieldCount n) (FieldForm n) (ltb (whole x) n) (otherWord l pinWord) (eqb (fieldCount l) 1) (eqb (lineKind l) noKind) (not (eqb (fieldCount l) (pinFields (lineKind l)))) (hasTimes (lineKind l) && not (isNumber l 2 && isNumber l 3)))
+      rw (six-three (LineNotDue n) (FieldCount n) (FieldForm n))
       (line-decides pin n _ _ _ (missing-means pin n) (pin-count-means l) (pin-form-means l))
 
   arc-decides : (n : ℕ) → Decides Earlier (Line arc n) (firstMet (lineGrounds x n (fourLine arcWord)))
   unfolding lineGrounds fourLine
   arc-decides n =
       let l = lineOf x n in
-      rw (as-three (LineNotDue n) (FieldCount n) (FieldForm n) (ltb (whole x) n) (otherWord l arcWord) (not (eqb (fieldCount l) 5)) (not (fourNumbers l)))
+      rw (as-three (LineNotDue n) (FieldCount n) (FieldForm n))
       (line-decides arc n _ _ _ (missing-means arc n) (means-not (means-same (fieldCount l) 5)) (four-means l))
 
   test-decides : (n : ℕ) → Decides Earlier (Line test n) (firstMet (lineGrounds x n (fourLine testWord)))
   unfolding lineGrounds fourLine
   test-decides n =
       let l = lineOf x n in
-      rw (as-three (LineNotDue n) (FieldCount n) (FieldForm n) (ltb (whole x) n) (otherWord l testWord) (not (eqb (fieldCount l) 5)) (not (fourNumbers l)))
+      rw (as-three (LineNotDue n) (FieldCount n) (FieldForm n))
       (line-decides test n _ _ _ (missing-means test n) (means-not (means-same (fieldCount l) 5)) (four-means l))
 
   ask-decides : (n : ℕ) → Decides Earlier (Line ask n) (firstMet (lineGrounds x n askLine))
   unfolding lineGrounds askLine
   ask-decides n =
       let l = lineOf x n in
-      rw (as-three (LineNotDue n) (FieldCount n) (FieldForm n) (ltb (whole x) n) (otherWord l askWord) (not (eqb (fieldCount l) 3)) (not (isMode (fieldOf l 1) && isNumber l 2)))
+      rw (as-three (LineNotDue n) (FieldCount n) (FieldForm n))
       (line-decides ask n _ _ _ (missing-means ask n) (means-not (means-same (fieldCount l) 3)) (mode-means l))
 
   -- its place

@@ -1,26 +1,26 @@
 -- What the tests of a text's lines and fields mean: each passes exactly when the sentence of 01 holds.
 -- Assumes nothing.
-use mathlib.Core.Path.{_≡_, refl, ap, _∙_}
-use mathlib.Core.Logic.{_⊎_, inl, inr, ⊎-elim, _≢_, _↔_}
+use mathlib.Core.Path.{_≡_, refl}
+use mathlib.Core.Logic.{_⊎_, inl, inr, ⊎-elim, _≢_}
 use mathlib.Core.Bool.{Bool, true, false, false≢true, not, _&&_, _||_}
-use mathlib.Core.List.{List, [], _∷_}
+use mathlib.Core.List.{[], _∷_}
 use Prim.Native.Nat.{ℕ, suc, _≤_, _<_}
 use native.Mathlib.Omega.{arith}
-use borrow.Author.Tests.{eqb-true, eqb-false, eq-eqb, ne-eqb}
-use lib.Dec.{eqb, leb, ltb}
+use borrow.Author.Tests.{eqb-true, eqb-false, ne-eqb}
+use lib.Dec.{eqb}
 use lib.ListN.{length, getD}
 use Rattle.lists.specs.Choice.{pick}
 use Rattle.lists.specs.Parts.{every, same}
-use Rattle.lists.specs.Laws.Cases.{by-test, clash}
+use Rattle.lists.specs.Laws.Cases.{by-test}
 use Rattle.lists.specs.Laws.Member.{In, every-in, in-every}
 use Rattle.lists.specs.Laws.Cut.{same-exactly}
 use Rattle.lists.specs.Laws.Means.{Means, means-as, means-not, means-or, means-and, means-less, means-most, means-same}
 use Rattle.timing.specs.Limits.{mostPins, mostArcs, mostTests}
-use Rattle.timing.specs.Kinds.{R, B, K, I, D, hasTimes}
-use Rattle.timing.specs.Field.{Bytes, bytes, setupWord, holdWord, isMode, digit, wellFormed, noKind, kindOf, letter}
+use Rattle.timing.specs.Kinds.{hasTimes}
+use Rattle.timing.specs.Field.{Bytes, setupWord, holdWord, isMode, digit, wellFormed, noKind, letter}
 use Rattle.timing.specs.Line.{fieldOf, fieldCount, isNumber, numberIn, otherWord, fourNumbers, sizesBad, pinFields, lineKind}
 use Rattle.timing.specs.Text.{whole, lineOf, more}
-use Rattle.demands.specs.TextConditions.{Stands, TimedLetter, BareLetter, Number, FourNumbers, SizeWrong}
+use Rattle.demands.specs.TextConditions.{pin, ask, Stands, TimedLetter, BareLetter, WrongCount, Number, FourNumbers, SizeWrong, Malformed}
 
 -- ---- words
 
@@ -41,7 +41,8 @@ number-means : (f : Bytes) → Means (wellFormed f) (Number f)
 unfolding wellFormed
 number-means f =
     means-as
-    (means-and (means-and (means-and (means-most 1 (length f)) (means-most (length f) 7)) every-digit) (means-or (means-not (means-same (getD f 0 0) 48)) (means-same (length f) 1)))
+    (means-and (means-and (means-and (means-most 1 (length f)) (means-most (length f) 7)) every-digit)
+    (means-or (means-not (means-same (getD f 0 0) 48)) (means-same (length f) 1)))
     (λ h. record { some-digits = h .0 .0 .0; few-digits = h .0 .0 .1; digits = h .0 .1; no-leading = zero-alone (h .1) })
     (λ n. (((n .some-digits, n .few-digits), n .digits), alone-zero (n .no-leading)))
   where
@@ -85,9 +86,10 @@ sizes-means l = go (numberIn l 1) (numberIn l 2) (numberIn l 3)
     ungroup (inr (inr (inr h))) = inr h
 
     go : (p a t : ℕ) → Means (sizesBad p a t) ((p ≡ 0) ⊎ (256 < p) ⊎ (1024 < a) ⊎ (64 < t))
-    go p a t = means-as (means-or (means-or (means-or (means-same p 0) (means-less mostPins p)) (means-less mostArcs a)) (means-less mostTests t)) regroup ungroup
+    go p a t =
+        means-as (means-or (means-or (means-or (means-same p 0) (means-less mostPins p)) (means-less mostArcs a)) (means-less mostTests t)) regroup ungroup
 
-pub mode-means : (l : Bytes) → Means (not (isMode (fieldOf l 1) && isNumber l 2)) ((((fieldOf l 1 ≡ bytes "setup") ⊎ (fieldOf l 1 ≡ bytes "hold")) → ⊥) ⊎ (Number (fieldOf l 2) → ⊥))
+pub mode-means : (l : Bytes) → Means (not (isMode (fieldOf l 1) && isNumber l 2)) (Malformed ask l)
 unfolding isMode
 mode-means l =
     rw (not-and (isMode (fieldOf l 1)) (isNumber l 2))
@@ -133,7 +135,8 @@ one-letter b =
     (λ i.
     by-test (eqb b 68) (λ e. rw (eqb-true b 68 e) (bare (inr (inr refl)) (no-timed 68 (λ z. omega arith) (λ z. omega arith)) refl refl))
     (λ d.
-    unknown (no-timed b (eqb-false b 82 r) (eqb-false b 73 i)) (no-bare b (eqb-false b 66 p) (eqb-false b 75 k) (eqb-false b 68 d)) (rw (r, p, k, i, d)) (rw (r, p, k, i, d)))))))
+    unknown (no-timed b (eqb-false b 82 r) (eqb-false b 73 i)) (no-bare b (eqb-false b 66 p) (eqb-false b 75 k) (eqb-false b 68 d)) (rw (r, p, k, i, d))
+    (rw (r, p, k, i, d)))))))
 
 -- a field of another length is no letter
 other-length : (f : Bytes) → length f ≢ 1 → Letter f
@@ -156,11 +159,14 @@ module _ (l : Bytes) where
   known = not (eqb (lineKind l) noKind)
 
   -- the letter is known and the count is another than it wants
-  count-means : Means (known && not (eqb (fieldCount l) (pinFields (lineKind l)))) ((TimedLetter (fieldOf l 1) × (fieldCount l ≢ 4)) ⊎ (BareLetter (fieldOf l 1) × (fieldCount l ≢ 2)))
+  abbrev Counts : Type 0
+  Counts = (TimedLetter (fieldOf l 1) × (fieldCount l ≢ 4)) ⊎ (BareLetter (fieldOf l 1) × (fieldCount l ≢ 2))
+
+  count-means : Means (known && not (eqb (fieldCount l) (pinFields (lineKind l)))) Counts
   unfolding lineKind pick
   count-means = by-letter (letter-is (fieldOf l 1))
     where
-      by-letter : Letter (fieldOf l 1) → Means (known && not (eqb (fieldCount l) (pinFields (lineKind l)))) ((TimedLetter (fieldOf l 1) × (fieldCount l ≢ 4)) ⊎ (BareLetter (fieldOf l 1) × (fieldCount l ≢ 2)))
+      by-letter : Letter (fieldOf l 1) → Means (known && not (eqb (fieldCount l) (pinFields (lineKind l)))) Counts
       by-letter (timed h n t k) =
           rw (k, t)
           (means-as (means-not (means-same (fieldCount l) 4)) (λ z. inl (h, z)) (⊎-elim (λ z. z .1) (λ z. absurd (n (z .0)))))
@@ -170,11 +176,11 @@ module _ (l : Bytes) where
       by-letter (unknown m n t k) = rw k (λ e. absurd (false≢true e), ⊎-elim (λ z. absurd (m (z .0))) (λ z. absurd (n (z .0))))
 
   pub pin-count-means : Means (eqb (fieldCount l) 1 || (known && not (eqb (fieldCount l) (pinFields (lineKind l)))))
-      ((fieldCount l ≡ 1) ⊎ (TimedLetter (fieldOf l 1) × (fieldCount l ≢ 4)) ⊎ (BareLetter (fieldOf l 1) × (fieldCount l ≢ 2)))
+      (WrongCount pin l)
   pin-count-means = means-or (means-same (fieldCount l) 1) count-means
 
   pub pin-form-means : Means (eqb (lineKind l) noKind || (hasTimes (lineKind l) && not (isNumber l 2 && isNumber l 3)))
-      (((TimedLetter (fieldOf l 1) ⊎ BareLetter (fieldOf l 1)) → ⊥) ⊎ (TimedLetter (fieldOf l 1) × ((Number (fieldOf l 2) × Number (fieldOf l 3)) → ⊥)))
+      (Malformed pin l)
   unfolding lineKind
   pin-form-means = means-or letter-unknown (means-and has-times (means-not (means-and (is-number-means l 2) (is-number-means l 3))))
     where

@@ -1,17 +1,17 @@
 -- From the contract of the asking to demand 3: two tables of the same structure, number by number, and the slack of a rank in the room.
 -- Assumes nothing.
-use mathlib.Core.Path.{_≡_, refl, sym, ap, _∙_}
+use mathlib.Core.Path.{_≡_, sym, ap, _∙_}
 use mathlib.Core.Logic.{_⊎_}
 use mathlib.Core.List.{List, []}
 use mathlib.Core.Option.{none}
-use Prim.Native.Nat.{ℕ, _+_, _-_, _*_, _≤_, _<_}
+use Prim.Native.Nat.{ℕ, _-_, _*_, _<_}
 use native.Mathlib.Nat.{add-zero}
 use native.Mathlib.Omega.{arith}
 use lib.ListN.{length, getD, take, drop}
 use lib.Seq.{getD-take, getD-drop}
 use lib.IntN.{ℤ, pos, _+ℤ_}
 use lib.Signed.{_≤ℤ_}
-use Rattle.lists.specs.Parts.{below, sum, each}
+use Rattle.lists.specs.Parts.{below, each}
 use Rattle.lists.specs.Laws.Member.{in-below, each-cong}
 use Rattle.lists.specs.Laws.Column.{column-at}
 use Rattle.lists.specs.Laws.Sum.{sum-plus}
@@ -81,7 +81,8 @@ moved-is t u =
     ))
 
 -- the rows of the two tables
-pub rows-move : (t u : Table) → tableFault t ≡ none → tableFault u ≡ none → structure t ≡ structure u → WiderTimes (structure t) (times t) (times u) → (mode k : ℕ)
+pub rows-move : (t u : Table) → tableFault t ≡ none → tableFault u ≡ none → structure t ≡ structure u → WiderTimes (structure t) (times t) (times u)
+    → (mode k : ℕ)
     → (length (tableRows t mode k) ≡ length (tableRows u mode k))
     × ((r : ℕ) → r < length (tableRows t mode k)
     → (slackOfRow (tableRows u mode k) r ≤ℤ slackOfRow (tableRows t mode k) r)

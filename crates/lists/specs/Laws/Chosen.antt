@@ -12,7 +12,7 @@ use native.Mathlib.Omega.{arith}
 use lib.ListN.{length, getD}
 use Rattle.lists.specs.Choice.{holds, Ground, ground, firstMet}
 use Rattle.lists.specs.Laws.Cases.{by-test}
-use Rattle.lists.specs.Laws.Member.{In, All, of-all, all-of}
+use Rattle.lists.specs.Laws.Member.{In, All, all-of}
 
 -- ---- several tests
 

@@ -1,7 +1,8 @@
 -- The law of the order of refusals, with sentences in place of tests: "Each is given exactly when its condition holds and none earlier in the order does."
 --
--- `Decides C o`: o is the first, in the order `Earlier`, of those of which the condition C holds, or none. A list of grounds decides part by part: one ground, one list
--- behind another, one list for each number. Where the order leaves no two unordered, what is decided is exactly what the sentence says (`decides-exactly`).
+-- `Decides C o`: o is the first, in the order `Earlier`, of those of which the condition C holds, or none. A list of grounds decides part by part: one ground,
+-- one list behind another, one list for each number. Where the order leaves no two unordered, what is decided is exactly what the sentence says
+-- (`decides-exactly`).
 -- Assumes nothing.
 use mathlib.Core.Path.{_≡_, refl, sym, ap, _∙_}
 use mathlib.Core.Logic.{_⊎_, inl, inr, ⊎-elim, _↔_}
@@ -12,12 +13,12 @@ use Prim.Native.Nat.{ℕ, zero, suc, _<_}
 use native.Mathlib.Nat.{not-suc-le-zero}
 use native.Mathlib.Omega.{arith}
 use native.Mathlib.Decide.{decLt}
-use Rattle.lists.specs.Choice.{pick, Ground, ground, firstMet}
+use Rattle.lists.specs.Choice.{Ground, ground, firstMet}
 use Rattle.lists.specs.Parts.{below, each, gather}
 use Rattle.lists.specs.Laws.Cases.{by-test}
 use Rattle.lists.specs.Laws.Join.{gather-join, each-gather}
 use Rattle.lists.specs.Laws.Chosen.{met-none, ground-here, ground-on, met-append, met-front}
-use Rattle.lists.specs.Laws.Means.{Means, fails-means, means-fails}
+use Rattle.lists.specs.Laws.Means.{Means, means-fails}
 
 module _ {X : Type 0} (Earlier : X → X → Type 0) where
   -- the condition of r holds, and that of none earlier
@@ -124,11 +125,13 @@ module _ {X : Type 0} (Earlier : X → X → Type 0) where
           ]
 
       -- and one ground for each
-      pub decides-each : (bad : ℕ → Bool) (g : ℕ → X) (P : ℕ → Type 0) (n : ℕ) → ((i : ℕ) → i < n → Means (bad i) (P i)) → ((i j : ℕ) → i < j → Earlier (g i) (g j))
+      pub decides-each : (bad : ℕ → Bool) (g : ℕ → X) (P : ℕ → Type 0) (n : ℕ) → ((i : ℕ) → i < n → Means (bad i) (P i))
+          → ((i j : ℕ) → i < j → Earlier (g i) (g j))
           → Decides (λ q. (i : ℕ) × (i < n) × ((q ≡ g i) × P i)) (firstMet (each (λ (i : ℕ). ground (bad i) (g i)) (below n)))
       decides-each bad g P n m o =
           rw each-gather
-          (decides-gather (λ i. ground (bad i) (g i) ∷ []) (λ i q. (q ≡ g i) × P i) n (λ i l. decides-one (bad i) (g i) (m i l)) (λ i j l q r h k. rw (h .0, k .0) (o i j l)))
+          (decides-gather (λ i. ground (bad i) (g i) ∷ []) (λ i q. (q ≡ g i) × P i) n (λ i l. decides-one (bad i) (g i) (m i l))
+          (λ i j l q r h k. rw (h .0, k .0) (o i j l)))
 
   -- ---- the sentence
 

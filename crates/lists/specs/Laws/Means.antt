@@ -1,11 +1,11 @@
 -- Tests and what they mean: a test passes exactly when a sentence holds. Put together by `not`, `||` and `&&` they mean what these words say.
 -- Assumes nothing.
 use mathlib.Core.Path.{_≡_, refl}
-use mathlib.Core.Logic.{_⊎_, inl, inr, _≢_, _↔_}
+use mathlib.Core.Logic.{_⊎_, inl, inr, _↔_}
 use mathlib.Core.Bool.{Bool, true, false, not, _&&_, _||_}
 use Prim.Native.Nat.{ℕ, _≤_, _<_}
 use native.Mathlib.Omega.{arith}
-use borrow.Author.Tests.{ltb-true, lt-ltb, le-ltb, leb-true, le-leb, lt-leb, eqb-true, eq-eqb}
+use borrow.Author.Tests.{ltb-true, ltb-false, lt-ltb, leb-true, leb-false, le-leb, eqb-true, eq-eqb}
 use lib.Dec.{eqb, leb, ltb}
 use Rattle.lists.specs.Laws.Cases.{by-test, clash}
 
@@ -67,7 +67,9 @@ pub means-same : (a b : ℕ) → Means (eqb a b) (a ≡ b)
 means-same a b = (eqb-true a b, eq-eqb a b)
 
 pub means-over : (a b : ℕ) → Means (not (leb a b)) (b < a)
-means-over a b = means-as (means-not (means-most a b)) (λ n. by-test (leb a b) (λ e. absurd (n (leb-true a b e))) (λ e. borrow.Author.Tests.leb-false a b e)) (λ h k. omega arith)
+means-over a b =
+    means-as (means-not (means-most a b)) (λ n. by-test (leb a b) (λ e. absurd (n (leb-true a b e))) (leb-false a b)) (λ h k. omega arith)
 
 pub means-least : (a b : ℕ) → Means (not (ltb a b)) (b ≤ a)
-means-least a b = means-as (means-not (means-less a b)) (λ n. by-test (ltb a b) (λ e. absurd (n (ltb-true a b e))) (λ e. borrow.Author.Tests.ltb-false a b e)) (λ h k. omega arith)
+means-least a b =
+    means-as (means-not (means-less a b)) (λ n. by-test (ltb a b) (λ e. absurd (n (ltb-true a b e))) (ltb-false a b)) (λ h k. omega arith)

@@ -3,10 +3,10 @@
 use mathlib.Core.Path.{_≡_, refl, sym, ap}
 use mathlib.Core.Logic.{inl, inr, ⊎-elim, _≢_}
 use mathlib.Core.List.{List, [], _∷_, _++_}
-use Prim.Native.Nat.{ℕ, _≤_}
+use Prim.Native.Nat.{_≤_}
 use native.Mathlib.Omega.{arith}
 use lib.ListN.{length, length-append}
-use Rattle.lists.specs.Laws.Member.{In, All, Pairs, all-of, of-all, in-left, in-right, in-either}
+use Rattle.lists.specs.Laws.Member.{In, Pairs, all-of, of-all, in-left, in-right, in-either}
 
 module _ {A : Type 0} where
   -- a relation of every two that follows, for members, from another
