@@ -205,7 +205,8 @@ pub enum Answer {
     Refused(Refusal),
 }
 
-// A candidate record of the ranked list.
+// A candidate record of the ranked list. It crosses to C as it is.
+#[repr(C)]
 pub struct Candidate {
     pub slack: i64,
     pub test: u64,
