@@ -1,4 +1,4 @@
-"""Holds what the fuzz driver recorded to the second implementation in Python: every reading, line and asking of the record.
+"""Holds what the fuzz driver recorded to the second implementation in Python: every reading, line, asking and entering of the record.
 
     python3 -B fuzz/compare.py FILE
 
@@ -35,12 +35,25 @@ def asking_agrees(told, table, rows):
     return (refusal, place, given, total) == (0, 0) + answer[1:] and rows == after[:len(rows)] and len(rows) == given * (table[0] + 5)
 
 
+def records(words):
+    """Numbers by threes: slack, test, serial."""
+    return list(zip(words[0::3], words[1::3], words[2::3]))
+
+
+def entering_agrees(told, before, after):
+    """An entering: count, refusal, place, new count and the record as they were told, and the list before and after."""
+    count, refusal, place, entered, *record = told
+    answer, wanted = toppaths.enter(before, count, tuple(record))
+    said = (answer[1], answer[2], 0) if answer[0] == "refused" else (0, 0, answer[1])
+    return (refusal, place, entered) == said and after == wanted
+
+
 def results(record):
     """Whether each entry of the record agrees."""
-    told, text, table = [], b"", []
+    told, text, table, before = [], b"", [], []
     for line in record:
         name, *words = line.split()
-        if name in ("read", "ask"):
+        if name in ("read", "ask", "enter"):
             told = numbers(words)
         elif name == "text":
             text = bytes.fromhex("".join(words))
@@ -51,6 +64,10 @@ def results(record):
             yield (start, size) == (offset, len(own)), line
         elif name == "table":
             table = numbers(words[1:])
+        elif name == "list":
+            before = records(numbers(words))
+        elif name == "entered":
+            yield entering_agrees(told, before, records(numbers(words))), f"enter {told} into {before}"
         elif name == "rows":
             yield asking_agrees(told, table, numbers(words[1:])), f"ask {told} of {table}"
 

@@ -1,6 +1,6 @@
 #!/usr/bin/env bash
-# Fuzzing of the library: texts and tables, whole and changed, in buffers of right and wrong sizes between guard pages,
-# against the model in C and against the second implementation in Python.
+# Fuzzing of the library: texts, tables and ranked lists, whole and changed, in buffers of right and wrong sizes between
+# guard pages, against the model in C and against the second implementation in Python.
 #
 #     fuzz/run.sh short                  the run of the gate: fixed seed and count
 #     fuzz/run.sh long COUNT [SEED]      by hand: the same with another count and seed

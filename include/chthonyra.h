@@ -91,6 +91,20 @@ struct chthonyra_answer {
     uint64_t total;
 };
 
+/* A candidate record of a ranked list. */
+struct chthonyra_record {
+    int64_t slack;
+    uint64_t test;
+    uint64_t serial;
+};
+
+/* What entering a record tells: the new count. */
+struct chthonyra_entered {
+    uint32_t refusal;
+    size_t place;
+    size_t count;
+};
+
 /* Reads a text into a table. Refusals 1 to 5. Places of the table beyond its length stay. */
 struct chthonyra_reading chthonyra_read(const uint8_t *text, size_t text_length, uint32_t *table, size_t table_length);
 
@@ -106,6 +120,12 @@ struct chthonyra_checked chthonyra_check(const uint32_t *table, size_t table_len
  */
 struct chthonyra_answer chthonyra_ask(const uint32_t *table, size_t table_length, uint32_t mode, size_t k, int64_t *room, size_t room_length,
                                       uint64_t *work, size_t work_length);
+
+/*
+ * Enters a record into a list of which the first `count` records stand: before the first that is greater by slack, test and serial in that order, or at the
+ * end. In a full list the last falls out. Records behind the new count stay. Refusal 16.
+ */
+struct chthonyra_entered chthonyra_enter(struct chthonyra_record *list, size_t list_length, size_t count, struct chthonyra_record record);
 
 #ifdef __cplusplus
 }

@@ -51,6 +51,7 @@ static void layout(void)
     expect(sizeof(struct chthonyra_part) == 16, "layout of a part");
     expect(sizeof(struct chthonyra_checked) == 16 && offsetof(struct chthonyra_checked, place) == 8, "layout of a check");
     expect(sizeof(struct chthonyra_answer) == 32 && offsetof(struct chthonyra_answer, total) == 24, "layout of an answer");
+    expect(sizeof(struct chthonyra_record) == 24 && sizeof(struct chthonyra_entered) == 24, "layout of a record and of what entering it tells");
     expect(CHTHONYRA_TABLE == CHTHONYRA_TABLE_LENGTH(256, 1024, 64), "the largest table");
     expect(CHTHONYRA_ROOM == CHTHONYRA_K * CHTHONYRA_ROW(256), "the largest answer");
 }
@@ -141,6 +142,35 @@ static void lines(void)
     expect(none.start == 0 && none.length == 0, "a line of nothing");
 }
 
+/* One record into a list of given length with a given count; the list holds slacks 10, 20, 30, .. */
+static void entering(size_t length, size_t count, int64_t slack, uint32_t refusal, size_t place)
+{
+    struct chthonyra_record *list = lent(length * sizeof *list);
+    for (size_t i = 0; i < length; i++)
+        list[i] = (struct chthonyra_record){10 * (int64_t)(i + 1), i, 7};
+    struct chthonyra_entered e = chthonyra_enter(list, length, count, (struct chthonyra_record){slack, 5, 6});
+    size_t after = count < length ? count + 1 : length;
+    expect(e.refusal == refusal && e.place == 0 && e.count == (refusal == 0 ? after : 0), "entering: refusal or count");
+    for (size_t i = 0; i < length; i++) {
+        int moved = refusal == 0 && i > place && i < after, here = refusal == 0 && i == place && i < after;
+        int64_t wanted = here ? slack : 10 * (int64_t)(moved ? i : i + 1);
+        expect(list[i].slack == wanted && list[i].serial == (here ? 6u : 7u), "entering: the list");
+    }
+    free(list);
+}
+
+static void enterings(void)
+{
+    entering(4, 4, 25, 0, 2);
+    entering(4, 2, 25, 0, 2);
+    entering(4, 3, 5, 0, 0);
+    entering(4, 4, 99, 0, 4);
+    entering(0, 0, 1, 0, 0);
+    entering(4, 5, 25, 16, 0);
+    entering(0, 1, 25, 16, 0);
+    entering(4, SIZE_MAX, 25, 16, 0);
+}
+
 int main(void)
 {
     layout();
@@ -148,6 +178,7 @@ int main(void)
     askings();
     tables();
     lines();
+    enterings();
     printf("%d passed, %d failed\n", passed, failed);
     return failed != 0;
 }

@@ -3,6 +3,8 @@
 //! What makes the calls safe: a slice gives a pointer that is not null, aligned, and leads to as many numbers as its length says; `&mut` gives memory
 //! that overlaps nothing else that is lent. The functions behind have no other demand: they answer at every input.
 
+use crate::Record;
+
 /// `struct chthonyra_reading`.
 #[repr(C)]
 #[derive(Clone, Copy)]
@@ -40,6 +42,15 @@ pub struct Answer {
     pub total: u64,
 }
 
+/// `struct chthonyra_entered`.
+#[repr(C)]
+#[derive(Clone, Copy)]
+pub struct Entered {
+    pub refusal: u32,
+    pub place: usize,
+    pub count: usize,
+}
+
 extern "C" {
     fn chthonyra_read(text: *const u8, text_length: usize, table: *mut u32, table_length: usize) -> Reading;
     fn chthonyra_line(text: *const u8, text_length: usize, n: usize) -> Part;
@@ -54,6 +65,7 @@ extern "C" {
         work: *mut u64,
         work_length: usize,
     ) -> Answer;
+    fn chthonyra_enter(list: *mut Record, list_length: usize, count: usize, record: Record) -> Entered;
 }
 
 pub fn read(text: &[u8], table: &mut [u32]) -> Reading {
@@ -76,4 +88,9 @@ pub fn ask(table: &[u32], mode: u32, k: usize, room: &mut [i64], work: &mut [u64
     unsafe {
         chthonyra_ask(table.as_ptr(), table.len(), mode, k, room.as_mut_ptr(), room.len(), work.as_mut_ptr(), work.len())
     }
+}
+
+pub fn enter(list: &mut [Record], count: usize, record: Record) -> Entered {
+    // SAFETY: see the head of this file; `Record` has C's layout.
+    unsafe { chthonyra_enter(list.as_mut_ptr(), list.len(), count, record) }
 }

@@ -12,7 +12,7 @@
 //! # Ok::<(), chthonyra::Refusal>(())
 //! ```
 //!
-//! [`Design`] keeps its own memory. The functions [`read_into`], [`check`] and [`ask_into`] work in memory that the caller lends. Nothing here panics: a
+//! [`Design`] keeps its own memory. The functions [`read_into`], [`check`], [`ask_into`] and [`enter`] work in memory that the caller lends. Nothing here panics: a
 //! text, a table or an asking that breaks a rule gives a [`Refusal`], and then nothing was written.
 #![deny(missing_docs)]
 #![deny(unsafe_op_in_unsafe_fn)]
@@ -145,6 +145,18 @@ pub struct Given {
     pub total: u64,
 }
 
+/// A candidate record of a ranked list, ordered by slack, test and serial.
+#[repr(C)]
+#[derive(Clone, Copy, Debug, PartialEq, Eq, PartialOrd, Ord)]
+pub struct Record {
+    /// The slack, which decides first.
+    pub slack: i64,
+    /// The test, which decides between equal slacks.
+    pub test: u64,
+    /// The serial number, which decides last.
+    pub serial: u64,
+}
+
 fn answered<T>(number: u32, place: usize, answer: T) -> Result<T, Refusal> {
     if number == 0 {
         Ok(answer)
@@ -177,6 +189,13 @@ pub fn check(table: &[u32]) -> Result<(), Refusal> {
 pub fn ask_into(table: &[u32], mode: u32, k: usize, room: &mut [i64], work: &mut [u64]) -> Result<Given, Refusal> {
     let told = ffi::ask(table, mode, k, room, work);
     answered(told.refusal, told.place, Given { rows: told.rows, total: told.total })
+}
+
+/// Enters a record into a lent list of which the first `count` stand, and gives the new count: before the first that is greater, or at the end; in a full list the
+/// last falls out, and records behind the new count stay. Refusal 16.
+pub fn enter(list: &mut [Record], count: usize, record: Record) -> Result<usize, Refusal> {
+    let told = ffi::enter(list, count, record);
+    answered(told.refusal, told.place, told.count)
 }
 
 /// The rows that an asking wrote at the front of a room, each of so many pins and 5 numbers.

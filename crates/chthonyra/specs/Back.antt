@@ -17,17 +17,22 @@ use Rattle.timing.specs.declared.Checked.{Checked}
 use Rattle.timing.specs.declared.Checked.the-variants.{Fine, Refused as NotFine}
 use Rattle.timing.specs.declared.Answer.{Answer}
 use Rattle.timing.specs.declared.Answer.the-variants.{Given, Refused as NotGiven}
+use Rattle.timing.specs.declared.Entered.{Entered}
+use Rattle.timing.specs.declared.Entered.the-variants.{Count, Refused as NotEntered}
+use Rattle.timing.specs.declared.Candidate.{Candidate}
 use Rattle.timing.specs.Refusals.{numberOf, placeOf, checkedOf}
 use Rattle.timing.specs.Table.{Table}
 use Rattle.timing.specs.Field.{Bytes}
 use Rattle.timing.specs.Check.{tableFault}
 use Rattle.timing.specs.Text.{reading, roomFilled}
 use Rattle.timing.specs.Asked.{answer, roomAfter, workAfter}
+use Rattle.timing.specs.Ranked.{enterAnswer, listAfter}
 use Rattle.chthonyra.specs.declared.ReadingTold.{ReadingTold}
 use Rattle.chthonyra.specs.declared.LineTold.{LineTold}
 use Rattle.chthonyra.specs.declared.CheckedTold.{CheckedTold}
 use Rattle.chthonyra.specs.declared.AnswerTold.{AnswerTold}
-use Rattle.chthonyra.specs.Told.{readingTold, lineTold, checkedTold, answerTold}
+use Rattle.chthonyra.specs.declared.EnteredTold.{EnteredTold}
+use Rattle.chthonyra.specs.Told.{readingTold, lineTold, checkedTold, answerTold, enteredTold}
 
 -- ---- a refusal from its number and its place
 
@@ -102,6 +107,14 @@ unfolding answerFrom pick
 answer-back (Given rows total) = refl
 answer-back (NotGiven r) = rw (never-0 r, refusal-back r) refl
 
+unfoldable pub enteredFrom : EnteredTold → Entered
+enteredFrom t = pick (eqb (t .refusal) 0) (Count (t .count)) (NotEntered (refusalAt (t .refusal) (t .place)))
+
+pub entered-back : (x : Entered) → enteredFrom (enteredTold x) ≡ x
+unfolding enteredFrom pick
+entered-back (Count n) = refl
+entered-back (NotEntered r) = rw (never-0 r, refusal-back r) refl
+
 -- ---- the contracts decide
 
 pub read-decides : (x : Bytes) (room : List ℕ) (r s : ReadingTold) (l m : List ℕ) → (r ≡ readingTold (reading x (length room))) × (l ≡ roomFilled x room)
@@ -113,6 +126,11 @@ line-decides x n r s e f = e ∙ sym f
 
 pub check-decides : (t : Table) (r s : CheckedTold) → r ≡ checkedTold (checkedOf (tableFault t)) → s ≡ checkedTold (checkedOf (tableFault t)) → r ≡ s
 check-decides t r s e f = e ∙ sym f
+
+pub enter-decides : (list : List Candidate) (count : ℕ) (c : Candidate) (r s : EnteredTold) (l m : List Candidate)
+    → (r ≡ enteredTold (enterAnswer count (length list))) × (l ≡ listAfter list count c)
+    → (s ≡ enteredTold (enterAnswer count (length list))) × (m ≡ listAfter list count c) → (r ≡ s) × (l ≡ m)
+enter-decides list count c r s l m e f = (e .0 ∙ sym (f .0), e .1 ∙ sym (f .1))
 
 module _ (t : Table) (mode k : ℕ) (room : List ℤ) (work : List ℕ) where
   -- what the contract says of a result and of the two lent memories

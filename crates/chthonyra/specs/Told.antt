@@ -8,6 +8,8 @@ use Rattle.timing.specs.declared.Checked.{Checked}
 use Rattle.timing.specs.declared.Checked.the-variants.{Fine, Refused as NotFine}
 use Rattle.timing.specs.declared.Answer.{Answer}
 use Rattle.timing.specs.declared.Answer.the-variants.{Given, Refused as NotGiven}
+use Rattle.timing.specs.declared.Entered.{Entered}
+use Rattle.timing.specs.declared.Entered.the-variants.{Count, Refused as NotEntered}
 use Rattle.timing.specs.Refusals.{numberOf, placeOf}
 use Rattle.timing.specs.Field.{Bytes}
 use Rattle.timing.specs.Text.{lineOf, lineStart}
@@ -15,6 +17,7 @@ use Rattle.chthonyra.specs.declared.ReadingTold.{ReadingTold}
 use Rattle.chthonyra.specs.declared.LineTold.{LineTold}
 use Rattle.chthonyra.specs.declared.CheckedTold.{CheckedTold}
 use Rattle.chthonyra.specs.declared.AnswerTold.{AnswerTold}
+use Rattle.chthonyra.specs.declared.EnteredTold.{EnteredTold}
 
 abbrev pub readingTold : Reading → ReadingTold
 readingTold (Read n m k) = record { refusal = 0; mode = m; place = 0; length = n; k = k }
@@ -31,3 +34,7 @@ checkedTold (NotFine r) = record { refusal = numberOf r; place = placeOf r }
 abbrev pub answerTold : Answer → AnswerTold
 answerTold (Given rows total) = record { refusal = 0; place = 0; rows = rows; total = total }
 answerTold (NotGiven r) = record { refusal = numberOf r; place = placeOf r; rows = 0; total = 0 }
+
+abbrev pub enteredTold : Entered → EnteredTold
+enteredTold (Count n) = record { refusal = 0; place = 0; count = n }
+enteredTold (NotEntered r) = record { refusal = numberOf r; place = placeOf r; count = 0 }

@@ -1,7 +1,9 @@
 // The library for C and Rust callers: the operations under names of C. A slice crosses as a pointer and a length; an answer, which is an enum inside,
 // crosses as a struct of numbers in which refusal 0 means that the operation answered.
 use timing::Answer;
+use timing::Candidate;
 use timing::Checked;
+use timing::Entered;
 use timing::Reading;
 ghost use mathlib.Core.Path.{_≡_};
 ghost use lib.ListN.{length};
@@ -9,7 +11,8 @@ ghost use Rattle.timing.specs.Refusals.{checkedOf};
 ghost use Rattle.timing.specs.Check.{tableFault};
 ghost use Rattle.timing.specs.Text.{reading, roomFilled};
 ghost use Rattle.timing.specs.Asked.{answer, roomAfter, workAfter};
-ghost use Rattle.chthonyra.specs.Told.{readingTold, lineTold, checkedTold, answerTold};
+ghost use Rattle.timing.specs.Ranked.{enterAnswer, listAfter};
+ghost use Rattle.chthonyra.specs.Told.{readingTold, lineTold, checkedTold, answerTold, enteredTold};
 
 // What a reading tells: the refusal's number and place, or the table's length, the mode and k.
 #[repr(C)]
@@ -42,6 +45,14 @@ pub struct AnswerTold {
     pub place: usize,
     pub rows: usize,
     pub total: u64,
+}
+
+// What entering a record tells: the refusal's number and place, or the new count.
+#[repr(C)]
+pub struct EnteredTold {
+    pub refusal: u32,
+    pub place: usize,
+    pub count: usize,
 }
 
 // A reading as numbers; 0 wherever a number has no meaning.
@@ -102,6 +113,24 @@ fn answer_told(r: Answer) -> AnswerTold
     }
 }
 
+// What entering a record answered, as numbers.
+fn entered_told(r: Entered) -> EnteredTold
+    ensures { λ n. ⌜ n ≡ enteredTold r ⌝ }
+{
+    match r {
+        Entered::Count(count) => EnteredTold {
+            refusal: 0,
+            place: 0,
+            count: count,
+        },
+        Entered::Refused(f) => EnteredTold {
+            refusal: timing::number_of(f),
+            place: timing::place_of(f),
+            count: 0,
+        },
+    }
+}
+
 // Reads a text into a table: refusals 1 to 5.
 #[no_mangle]
 pub extern "C" fn chthonyra_read(text: &[u8], table: &mut [u32]) -> ReadingTold
@@ -143,4 +172,12 @@ pub extern "C" fn chthonyra_ask(
     ensures { λ r. ⌜ (r ≡ answerTold (answer (now (table .entry)) mode k (length (now (room .entry))) (length (now (work .entry))))) × (now (room .exit) ≡ roomAfter (now (table .entry)) mode k (now (room .entry)) (length (now (work .entry)))) × (now (work .exit) ≡ workAfter (now (table .entry)) mode k (length (now (room .entry))) (now (work .entry))) ⌝ }
 {
     answer_told(report::ask(table, mode, k, room, work))
+}
+
+// Enters a record among the first count of a lent list of records: refusal 16.
+#[no_mangle]
+pub extern "C" fn chthonyra_enter(list: &mut [Candidate], count: usize, c: Candidate) -> EnteredTold
+    ensures { λ r. ⌜ (r ≡ enteredTold (enterAnswer count (length (now (list .entry))))) × (now (list .exit) ≡ listAfter (now (list .entry)) count c) ⌝ }
+{
+    entered_told(ranked::enter(list, count, c))
 }
