@@ -4,7 +4,7 @@ use mathlib.Core.Path.{_≡_}
 use mathlib.Core.Bool.{false}
 use mathlib.Core.List.{List, [], _∷_, _++_}
 use Prim.Native.Nat.{ℕ, _+_, _≤_, _<_}
-use lib.IntN.{pos, subℕ}
+use lib.IntN.{ℤ, pos, subℕ}
 use lib.ListN.{length, getD, take}
 use Rattle.lists.specs.Parts.{below}
 use Rattle.lists.specs.Laws.Member.{In}
@@ -20,7 +20,7 @@ use Rattle.timing.specs.Ranked.{greater}
 use Rattle.timing.specs.declared.Candidate.{Candidate}
 use Rattle.worst.specs.Candidates.{candidateAt, rankedList}
 use Rattle.worst.specs.Laws.Kept.{Holds}
-use Rattle.clocks.specs.Clocked.{ClockPin}
+use Rattle.clocks.specs.Clocked.{ClockPin, Clocked}
 use Rattle.clocks.specs.Area.{Kept}
 use Rattle.engine.specs.Area.{none, plan, wordAt, firstAt, fromIn, weightIn}
 use Rattle.engine.specs.Laid.{Laid}
@@ -135,6 +135,17 @@ pub record Adds (t : Table) (mode j : ℕ) (list : List Candidate) (count : ℕ)
 pub record Queued (n : ℕ) (tests : List ℕ) : Type 0 where
   pub places : length tests ≡ 64
   pub all : Perm (take n tests) (below n)
+
+-- the tests wait in a queue, and each has a bound
+pub record Waits (t : Table) (mode : ℕ) (w bounds tests : List ℕ) : Type 0 where
+  pub clocked : Clocked t w
+  pub places : length bounds ≡ 64
+  pub bound : AllBounds t mode bounds
+  pub queued : Queued (testCount t) tests
+
+-- the slack that its bound allows the test at place i
+abbrev pub allowedAt : Table → ℕ → List ℕ → List ℕ → ℕ → ℤ
+allowedAt t mode bounds tests i = recordOf t mode (getD tests i 0) (getD bounds (getD tests i 0) 0) 0 .slack
 
 -- the winners of all tests
 abbrev pub AllWinners : Table → ℕ → List Candidate → ℕ → Type 0

@@ -6,10 +6,11 @@ use timing::Design;
 ghost use mathlib.Core.Path.{_≡_};
 ghost use mathlib.Core.Bool.{true};
 ghost use Prim.Native.Nat.{_+_, _≤_, _<_};
-ghost use lib.ListN.{length, take};
+ghost use lib.ListN.{length};
 ghost use lib.IntN.{subℕ};
 ghost use Rattle.lists.specs.Parts.{capped};
 ghost use Rattle.lists.specs.Laws.Count.{countTo};
+ghost use Rattle.lists.specs.Laws.Exchange.{exchanged};
 ghost use Rattle.timing.specs.Limits.{mostK, mostTotal};
 ghost use Rattle.timing.specs.Table.{testCount};
 ghost use Rattle.timing.specs.Structure.{structure};
@@ -20,7 +21,7 @@ ghost use Rattle.clocks.specs.Clocked as clocked;
 ghost use Rattle.engine.specs.Laid.{Ready};
 ghost use Rattle.engine.specs.Steps.{Counts};
 ghost use Rattle.winners.specs.Standing.{Prepared, Standing};
-ghost use Rattle.winners.specs.Winning.{Sown, countAt, recordOf, candidateOf, HasRank, Above, Come, LeastInto, Leasts, Shared, Next, AllBounds, Full, Sized, Adds, Queued, AllWinners};
+ghost use Rattle.winners.specs.Winning.{Sown, countAt, recordOf, candidateOf, HasRank, Above, Come, LeastInto, Leasts, Shared, Next, AllBounds, Full, Sized, Adds, Queued, Waits, allowedAt, AllWinners};
 
 // The sorted arcs and the clock side of a table, for all tests.
 pub fn prepare(table: &[u32], mode: u32, work: &mut [u64])
@@ -279,17 +280,17 @@ fn lay_shared(table: &[u32], mode: u32, work: &mut [u64])
 }
 
 // A bound for each test: the least value at its data pin against the shared clock pin.
-fn bounds_of(table: &[u32], mode: u32, work: &mut [u64]) -> [u64; Design::TESTS]
+fn bounds_of(table: &[u32], mode: u32, work: &mut [u64]) -> [u32; Design::TESTS]
     requires { ⌜ Prepared (now table) mode (now work) × (0 < testCount (now table)) ⌝ }
-    ensures { λ r. ⌜ AllBounds (now (table .entry)) mode r × Prepared (now (table .entry)) mode (now (work .exit)) ⌝ }
+    ensures { λ r. ⌜ AllBounds (now (table .entry)) mode r × Prepared (now (table .entry)) mode (now (work .exit)) × (length r ≡ 64) ⌝ }
 {
     lay_shared(table, mode, work);
     let n = tables::test_count(table);
-    let mut bounds = [0u64; Design::TESTS];
+    let mut bounds = [0u32; Design::TESTS];
     let mut test = 0;
     while test < n {
         let data = tables::of_test(table, 1, test);
-        bounds[test] = work[engine::COUNTS + data];
+        bounds[test] = work[engine::COUNTS + data] as u32;
         test += 1;
     }
     bounds
@@ -318,71 +319,64 @@ fn take_test(
 
 // ---- the order of the tests
 
-// The tests in the order in which they are taken and, by place, the key that orders them: the slack that the test's bound allows.
-struct Queue {
-    tests: [usize; Design::TESTS],
-    keys: [i64; Design::TESTS],
-}
-
-// All tests, as they are numbered, with their keys.
-fn queue_of(table: &[u32], mode: u32, work: &[u64], bounds: [u64; Design::TESTS]) -> Queue
-    requires { ⌜ Clocked (now table) (now work) × AllBounds (now table) mode bounds ⌝ }
-    ensures { λ r. ⌜ Queued (testCount (now (table .entry))) (r .tests) ⌝ }
+// The tests, as they are numbered.
+fn number(tests: &mut [u8], n: usize)
+    requires { ⌜ (length (now tests) ≡ 64) × (n ≤ 64) ⌝ }
+    ensures { λ _. ⌜ Queued n (now (tests .exit)) ⌝ }
 {
-    let n = tables::test_count(table);
-    let mut tests = [0usize; Design::TESTS];
-    let mut keys = [0i64; Design::TESTS];
     let mut j = 0;
     while j < n {
-        let bound = bounds[j];
-        let allowed = record_of(table, mode, work, j, bound, 0);
-        let key = allowed.slack;
-        tests[j] = j;
-        keys[j] = key;
+        tests[j] = j as u8;
         j += 1;
-    }
-    Queue {
-        tests: tests,
-        keys: keys,
     }
 }
 
-// The place of the least key, of those from a place on and below n.
-fn nearest(keys: [i64; Design::TESTS], from: usize, n: usize) -> usize
-    requires { ⌜ (from < n) × (n ≤ 64) ⌝ }
-    ensures { λ r. ⌜ (from ≤ r) × (r < n) ⌝ }
+// The slack that its bound allows the test at place i. It orders the tests and decides nothing else.
+fn allowed(table: &[u32], mode: u32, work: &[u64], bounds: &[u32], tests: &[u8], i: usize) -> i64
+    requires { ⌜ Waits (now table) mode (now work) (now bounds) (now tests) × (i < testCount (now table)) ⌝ }
+    ensures { λ r. ⌜ r ≡ allowedAt (now (table .entry)) mode (now (bounds .entry)) (now (tests .entry)) i ⌝ }
 {
+    let j = tests[i] as usize;
+    let first = record_of(table, mode, work, j, bounds[j] as u64, 0);
+    first.slack
+}
+
+// The place of the test with the least of these slacks, from a place on.
+fn nearest(
+    table: &[u32],
+    mode: u32,
+    work: &[u64],
+    bounds: &[u32],
+    tests: &[u8],
+    from: usize,
+) -> usize
+    requires { ⌜ Waits (now table) mode (now work) (now bounds) (now tests) × (from < testCount (now table)) ⌝ }
+    ensures { λ r. ⌜ (from ≤ r) × (r < testCount (now (table .entry))) ⌝ }
+{
+    let n = tables::test_count(table);
     let mut at = from;
+    let mut least = allowed(table, mode, work, bounds, tests, from);
     let mut i = from + 1;
     while i < n {
-        if keys[i] < keys[at] {
+        let slack = allowed(table, mode, work, bounds, tests, i);
+        if slack < least {
             at = i;
+            least = slack;
         }
         i += 1;
     }
     at
 }
 
-// The test with the least key, of those from place i on, changes places with the one at i.
-fn brought_forward(queue: Queue, i: usize, n: usize) -> Queue
-    requires { ⌜ Queued n (queue .tests) × (i < n) × (n ≤ 64) ⌝ }
-    ensures { λ r. ⌜ Queued n (r .tests) × (take i (r .tests) ≡ take i (queue .tests)) ⌝ }
+// The tests at places i and m change places.
+fn exchange(tests: &mut [u8], i: usize, m: usize)
+    requires { ⌜ (i < length (now tests)) × (m < length (now tests)) ⌝ }
+    ensures { λ _. ⌜ now (tests .exit) ≡ exchanged 0 (now (tests .entry)) i m ⌝ }
 {
-    let mut tests = queue.tests;
-    let mut keys = queue.keys;
-    let m = nearest(keys, i, n);
-    let test = tests[m];
     let first = tests[i];
+    let test = tests[m];
     tests[m] = first;
     tests[i] = test;
-    let key = keys[m];
-    let first_key = keys[i];
-    keys[m] = first_key;
-    keys[i] = key;
-    Queue {
-        tests: tests,
-        keys: keys,
-    }
 }
 
 // ---- all tests
@@ -398,14 +392,14 @@ pub fn all_winners(table: &[u32], mode: u32, work: &mut [u64]) -> Winners
         return won;
     }
     let bounds = bounds_of(table, mode, work);
-    let mut queue = queue_of(table, mode, work, bounds);
+    let mut tests = [0u8; Design::TESTS];
+    number(&mut tests, n);
     let mut done = 0;
     while done < n {
-        queue = brought_forward(queue, done, n);
-        let tests = queue.tests;
-        let j = tests[done];
-        let bound = bounds[j];
-        won = take_test(table, mode, work, j, bound, won);
+        let next = nearest(table, mode, work, &bounds, &tests, done);
+        exchange(&mut tests, done, next);
+        let j = tests[done] as usize;
+        won = take_test(table, mode, work, j, bounds[j] as u64, won);
         done += 1;
     }
     won

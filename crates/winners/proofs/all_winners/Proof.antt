@@ -8,13 +8,14 @@ use borrow.Author.Needs.{needs}
 use lib.ListN.{length, getD, take}
 use Rattle.lists.specs.Parts.{below}
 use Rattle.lists.specs.Laws.Ranking.{perm-same}
+use Rattle.lists.specs.Laws.Exchange.{exchanged-front}
 use Rattle.timing.specs.Table.{Table, testCount}
 use Rattle.timing.specs.declared.Candidate.{Candidate}
 use Rattle.timing.specs.Laws.Accepted.{accepted}
 use Rattle.winners.specs.Standing.{Prepared}
-use Rattle.winners.specs.Winning.{AllBounds, Sized, Queued, HoldsOf}
+use Rattle.winners.specs.Winning.{AllBounds, Queued, HoldsOf}
 use Rattle.winners.specs.Laws.Listed.{holds-first, holds-all, holds-sized}
-use Rattle.winners.specs.Laws.Queue.{queued-test, queued-more, queued-all}
+use Rattle.winners.specs.Laws.Queue.{queued-test, queued-exchanged, queued-more, queued-all}
 use Rattle.winners.proofs.all_winners.Statement.{statement}
 use Rattle.winners.proofs.all_winners.Tie as tie
 
@@ -24,15 +25,16 @@ record So (t : Table) (mode : ℕ) (w₀ w bounds : List ℕ) (n i : ℕ) (tests
   at : i ≤ n
   len : length w ≡ length w₀
   prepared : Prepared t mode w
+  places : length bounds ≡ 64
   bound : AllBounds t mode bounds
   queued : Queued n tests
   so-far : HoldsOf t mode (take i tests) list count
 
 abbrev Inv-loop : tie.InvT-loop
-Inv-loop table mode work₀ n won₀ bounds queue₀ done₀ work won queue done = So table mode work₀ work bounds n done (queue .tests) (won .list) (won .count)
+Inv-loop table mode work₀ n won₀ bounds tests₀ done₀ work won tests done = So table mode work₀ work bounds n done tests (won .list) (won .count)
 
 abbrev μ-loop : tie.MeasureT-loop
-μ-loop table mode work₀ n won₀ bounds queue₀ done₀ work won queue done = n - done
+μ-loop table mode work₀ n won₀ bounds tests₀ done₀ work won tests done = n - done
 
 test-count-requires : tie.Need-test-count-requires Inv-loop μ-loop
 test-count-requires c κs = search needs
@@ -55,14 +57,18 @@ bounds-of-requires c κs =
     let n = c .before .before in
     (n .before .before .before .before .pre, omega (arith, n .before .test-count .ensures, c .before .if1 .left))
 
-queue-of-requires : tie.Need-queue-of-requires Inv-loop μ-loop
-queue-of-requires c κs =
-    let b = c .before .before .before in
-    (b .bounds-of .ensures .1 .clocked, b .bounds-of .ensures .0)
+slice-aggregate-number : tie.Need-slice-aggregate-number Inv-loop μ-loop
+slice-aggregate-number c = search needs
+
+number-requires : tie.Need-number-requires Inv-loop μ-loop
+number-requires c κs =
+    let t = c .before .before .before .before .before .before .before in
+    let p = t .before .before .before .pre in
+    (refl, omega (arith, t .test-count .ensures, accepted _ (p .clocked .ready .checked) .header .few-tests))
 
 loop-holds : tie.Need-loop-holds Inv-loop μ-loop
 loop-holds c =
-    let b = c .before .before .before .before in
+    let b = c .before .before .before .before .before in
     let n = b .before .before .before in
     let e = n .no-winners .ensures in
     let k = n .before .test-count .ensures in
@@ -73,39 +79,74 @@ loop-holds c =
       at = omega arith;
       len = search needs;
       prepared = p;
+      places = b .bounds-of .ensures .2;
       bound = b .bounds-of .ensures .0;
-      queued = rw k (c .queue-of .ensures);
+      queued = c .before .number .ensures;
       so-far = holds-first _ _ _ _ (e .0) (e .1);
     }
 
-brought-forward-requires : tie.Need-brought-forward-requires Inv-loop μ-loop
-brought-forward-requires c κs =
-    let i = c .before .loop .inv in
-    (i .queued, c .loop-test .taken, i .few)
+slice-aggregate-nearest : tie.Need-slice-aggregate-nearest Inv-loop μ-loop
+slice-aggregate-nearest c = sym (c .before .before .before .loop .inv .places)
 
--- the test that is taken
-taken : (c : tie.After-brought-forward Inv-loop μ-loop) → getD (c .brought-forward .result .tests) (c .before .before .loop .done) 0 < testCount (c .before .before .before .before .before .before .before .before .before .before .before .before .before .before .args .table .now)
-taken c =
-    let i = c .before .before .loop .inv in
-    rw (← i .stop) (queued-test _ _ _ (c .brought-forward .ensures .0) (c .before .loop-test .taken) (i .few))
+slice-aggregate-nearest-2 : tie.Need-slice-aggregate-nearest-2 Inv-loop μ-loop
+slice-aggregate-nearest-2 c = sym (c .before .before .before .before .loop .inv .queued .places)
 
-mul-j : tie.Need-mul-j Inv-loop μ-loop
-mul-j c = omega (arith, c .before .before .loop-test .taken, c .before .before .before .loop .inv .few)
+nearest-requires : tie.Need-nearest-requires Inv-loop μ-loop
+nearest-requires c κs =
+    let l = c .before .before .before in
+    let i = l .before .loop .inv in (
+      record { clocked = i .prepared .clocked; places = i .places; bound = i .bound; queued = rw (← i .stop) (i .queued) },
+      omega (arith, l .loop-test .taken, i .stop),
+    )
+
+slice-aggregate-exchange : tie.Need-slice-aggregate-exchange Inv-loop μ-loop
+slice-aggregate-exchange c = sym (c .before .before .before .before .before .before .loop .inv .queued .places)
+
+exchange-requires : tie.Need-exchange-requires Inv-loop μ-loop
+exchange-requires c κs =
+    let l = c .before .before .before .before .before in
+    let i = l .before .loop .inv in
+    let r = c .before .nearest .ensures in
+    (omega (arith, l .loop-test .taken, i .few, i .queued .places), omega (arith, r .1, i .stop, i .few, i .queued .places))
+
+-- the tests after the exchange, and the one that is taken
+waiting : (c : tie.After-exchange Inv-loop μ-loop) → Queued (c .before .before .before .before .before .before .before .before .before .before .before .before .before .before .before .before .before .test-count .result) (c .exchange .last .0)
+waiting c =
+    let i = c .before .before .before .before .before .before .before .loop .inv in
+    let r = c .before .before .nearest .ensures in
+    rw (c .exchange .ensures) (queued-exchanged _ _ _ _ (i .queued) (r .0) (omega (arith, r .1, i .stop)) (i .few))
+
+taken : (c : tie.After-exchange Inv-loop μ-loop) → getD (c .exchange .last .0) (c .before .before .before .before .before .before .before .loop .done) 0 < c .before .before .before .before .before .before .before .before .before .before .before .before .before .before .before .before .before .test-count .result
+taken c = queued-test _ _ _ (waiting c) (c .before .before .before .before .before .before .loop-test .taken) (c .before .before .before .before .before .before .before .loop .inv .few)
+
+of-table : (c : tie.After-exchange Inv-loop μ-loop) → getD (c .exchange .last .0) (c .before .before .before .before .before .before .before .loop .done) 0 < testCount (c .before .before .before .before .before .before .before .before .before .before .before .before .before .before .before .before .before .before .before .before .args .table .now)
+of-table c = rw (← c .before .before .before .before .before .before .before .loop .inv .stop) (taken c)
+
+-- those that were taken stand as before
+front : (c : tie.After-exchange Inv-loop μ-loop) → take (c .before .before .before .before .before .before .before .loop .done) (c .exchange .last .0) ≡ take (c .before .before .before .before .before .before .before .loop .done) (c .before .before .before .before .before .before .before .loop .tests)
+front c = rw (c .exchange .ensures) (exchanged-front 0 _ _ _ (c .before .before .nearest .ensures .0))
 
 array-read-j : tie.Need-array-read-j Inv-loop μ-loop
-array-read-j c = omega (arith, c .before .before .loop-test .taken, c .before .before .before .loop .inv .few)
+array-read-j c = omega (arith, c .before .before .before .before .before .before .before .loop-test .taken, c .before .before .before .before .before .before .before .before .loop .inv .few)
 
-mul-bound : tie.Need-mul-bound Inv-loop μ-loop
-mul-bound c = let i = c .before .before .before .loop .inv in omega (arith, taken (c .before), i .stop, i .few)
+cast-j : tie.Need-cast-j Inv-loop μ-loop
+cast-j c = omega (arith, taken (c .before), c .before .before .before .before .before .before .before .before .loop .inv .few)
 
-array-read-bound : tie.Need-array-read-bound Inv-loop μ-loop
-array-read-bound c = let i = c .before .before .before .loop .inv in omega (arith, taken (c .before), i .stop, i .few)
+mul-take-test : tie.Need-mul-take-test Inv-loop μ-loop
+mul-take-test c = omega (arith, taken (c .before .before), c .before .before .before .before .before .before .before .before .before .loop .inv .few)
+
+array-read-take-test : tie.Need-array-read-take-test Inv-loop μ-loop
+array-read-take-test c = omega (arith, taken (c .before .before), c .before .before .before .before .before .before .before .before .before .loop .inv .few)
+
+cast-take-test : tie.Need-cast-take-test Inv-loop μ-loop
+cast-take-test c =
+    omega (arith, c .before .before .before .before .before .before .before .before .before .loop .inv .bound _ (of-table (c .before .before)) .small)
 
 take-test-requires : tie.Need-take-test-requires Inv-loop μ-loop
 take-test-requires c κs =
-    let f = c .before .before in
-    let i = f .before .before .loop .inv in
-    (record { prepared = i .prepared; test = taken f; bounds = i .bound _ (taken f) }, holds-sized _ _ _ (i .so-far))
+    let i = c .before .before .before .before .before .before .before .before .before .loop .inv in
+    let l = of-table (c .before .before) in
+    (record { prepared = i .prepared; test = l; bounds = i .bound _ l }, holds-sized _ _ _ (i .so-far))
 
 add-done : tie.Need-add-done Inv-loop μ-loop
 add-done c = search needs
@@ -116,19 +157,20 @@ loop-less c = search needs
 loop-again : tie.Need-loop-again Inv-loop μ-loop
 loop-again c =
     let k = c .before .before in
-    let f = k .before .before .before in
-    let t = f .before in
+    let e = k .before .before .before in
+    let t = e .before .before .before .before .before .before in
     let i = t .before .loop .inv in
-    let e = f .brought-forward .ensures in
     record {
       stop = i .stop;
       few = i .few;
       at = omega (arith, t .loop-test .taken);
       len = k .take-test .kept .1 .1 .0 ∙ i .len;
       prepared = k .take-test .ensures .1;
+      places = i .places;
       bound = i .bound;
-      queued = e .0;
-      so-far = queued-more _ _ _ _ _ _ (e .0) (t .loop-test .taken) (i .few) (e .1) _ _ _ _ (k .take-test .ensures .0) (i .so-far);
+      queued = waiting e;
+      so-far =
+          queued-more _ _ _ _ _ _ (waiting e) (t .loop-test .taken) (i .few) (front e) _ _ _ _ (k .take-test .ensures .0) (i .so-far);
     }
 
 same-length : tie.Need-same-length Inv-loop μ-loop
@@ -139,7 +181,7 @@ returns-2 c =
     let i = c .before .loop .inv in (
       queued-all _ _ _ (c .before .loop .done) _ (i .queued) (i .stop) (omega (arith, i .at, c .loop-test .left)) _ _ (i .so-far),
       i .prepared,
-      i .len ∙ c .before .before .before .before .before .before .bounds-of .kept .1 .1 .0,
+      i .len ∙ c .before .before .before .before .before .before .before .bounds-of .kept .1 .1 .0,
     )
 
 pub all-winners-spec : {M : Type 1} → statement M
@@ -152,13 +194,19 @@ all-winners-spec =
     no-winners-requires
     returns
     bounds-of-requires
-    queue-of-requires
+    slice-aggregate-number
+    number-requires
     loop-holds
-    brought-forward-requires
-    mul-j
+    slice-aggregate-nearest
+    slice-aggregate-nearest-2
+    nearest-requires
+    slice-aggregate-exchange
+    exchange-requires
     array-read-j
-    mul-bound
-    array-read-bound
+    cast-j
+    mul-take-test
+    array-read-take-test
+    cast-take-test
     take-test-requires
     add-done
     loop-less

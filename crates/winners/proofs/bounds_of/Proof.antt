@@ -80,6 +80,13 @@ slice-read-bounds c =
     let p = c .before .before .before .before .before .before .before .lay-shared .ensures .prepared in
     omega (arith, low (c .before), p .clocked .ready .room)
 
+cast-bounds : tie.Need-cast-bounds Inv-loop μ-loop
+cast-bounds c =
+    let o = c .before in
+    let t = o .before in
+    let b = t .before .before .before .before .before in
+    rw (o .of-test .ensures) (omega (arith, b .lay-shared .ensures .bounds _ (inside t) .small))
+
 mul-bounds-2 : tie.Need-mul-bounds-2 Inv-loop μ-loop
 mul-bounds-2 c = search needs
 
@@ -105,7 +112,7 @@ same-length c = search needs
 returns : tie.Need-returns Inv-loop μ-loop
 returns c =
     let i = c .before .loop .inv in
-    ((λ j k. i .so-far j (omega (arith, i .stop, i .at, c .loop-test .left))), c .before .before .before .before .before .lay-shared .ensures .prepared)
+    ((λ j k. i .so-far j (omega (arith, i .stop, i .at, c .loop-test .left))), c .before .before .before .before .before .lay-shared .ensures .prepared, i .len)
 
 pub bounds-of-spec : {M : Type 1} → statement M
 bounds-of-spec =
@@ -120,6 +127,7 @@ bounds-of-spec =
     add-bounds
     mul-bounds
     slice-read-bounds
+    cast-bounds
     mul-bounds-2
     array-write-bounds
     add-test
