@@ -4,22 +4,21 @@
 -- Of every answered asking, over the room that it leaves. Paths, credit, slack and order are those of `Definitions`.
 -- Assumes nothing.
 use mathlib.Core.Path.{_≡_, _∙_}
-use mathlib.Core.List.{List}
+use mathlib.Core.List.{List, _++_}
 use Prim.Native.Nat.{ℕ, _*_, min}
-use lib.ListN.{length, take, drop}
-use lib.IntN.{ℤ, pos}
+use lib.ListN.{length, take, drop, replicate}
+use lib.IntN.{ℤ}
 use Rattle.lists.specs.Parts.{each}
 use Rattle.timing.specs.Table.{Table, pinCount}
 use Rattle.timing.specs.Structure.{structure, times}
 use Rattle.timing.specs.Paths.{Path}
-use Rattle.timing.specs.Slack.{pathCredit, slack, ranked}
+use Rattle.timing.specs.Slack.{ranked}
 use Rattle.timing.specs.Rows.{modeOf, rowLength}
 use Rattle.timing.specs.Asked.{tableRows}
 use Rattle.timing.specs.Laws.Accepted.{accepted}
 use Rattle.printing.specs.Room.{roomRows}
 use Rattle.demands.specs.Definitions.{Answered, ByDefinition, StrictTotal, AllPaths, rowOf}
 use Rattle.demands.specs.Laws.Granted.{granted}
-use Rattle.demands.specs.Laws.Slacks.{defined}
 use Rattle.demands.specs.Laws.Ordered.{strict-total}
 use Rattle.demands.specs.Laws.Reported.{ranked-listed, listed-only, rows-are, rows-many}
 
@@ -36,8 +35,10 @@ pub record Reported (t : Table) (mode k : ℕ) (a : Answered t mode k) (creditOf
       → roomRows (a .rows) (rowLength (pinCount t)) (a .room′) ≡ each (rowOf (structure t) creditOf slackOf) (take k l)
   -- "Places after the last row stay."
   pub stay : drop (a .rows * rowLength (pinCount t)) (a .room′) ≡ drop (a .rows * rowLength (pinCount t)) (a .room)
+  -- of the work area: "after an answer that length is all zero and places beyond it stay"
+  pub cleared : a .work′ ≡ replicate 8192 0 ++ drop 8192 (a .work)
 
--- whatever credits and slacks fit the definitions, the rows are reported by them
+-- whatever credits and slacks fit the definitions; `Slack` shows that there are such, and only one
 pub demand-2 : (t : Table) (mode k : ℕ) (a : Answered t mode k) (creditOf slackOf : Path → ℤ)
     → ByDefinition (modeOf mode) (structure t) (times t) creditOf slackOf → Reported t mode k a creditOf slackOf
 unfolding tableRows
@@ -56,12 +57,5 @@ demand-2 t mode k a creditOf slackOf d =
       given = λ l h. g .counted ∙ rows-many m s x ok r creditOf slackOf d k l h;
       rows = λ l h. g .stand ∙ rows-are m s x ok r creditOf slackOf d k l h;
       stay = g .stays;
+      cleared = g .cleared;
     }
-
--- and there are such: those that the operations are proved to give
-pub demand-2-defined : (t : Table) (mode k : ℕ) → Answered t mode k
-    → ByDefinition (modeOf mode) (structure t) (times t) (λ (p : Path). pos (pathCredit (modeOf mode) (structure t) (times t) p))
-    (slack (modeOf mode) (structure t) (times t))
-demand-2-defined t mode k a =
-    let c = granted t mode k a .checked in
-    defined (structure t) (accepted t c .sound) (times t) (accepted t c .ranged) (modeOf mode)

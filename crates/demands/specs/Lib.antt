@@ -6,6 +6,7 @@ pub mod Conditions
 pub mod TextConditions
 pub mod Laws
 pub mod Demand1
+pub mod Slack
 pub mod Demand2
 pub mod Demand3
 pub mod Total

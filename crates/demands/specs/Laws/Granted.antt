@@ -1,22 +1,23 @@
 -- An asking that was answered: no refusal, and where its rows stand.
 -- Assumes nothing.
-use mathlib.Core.Path.{_≡_, refl}
-use mathlib.Core.List.{List}
+use mathlib.Core.Path.{_≡_, refl, ap, _∙_}
+use mathlib.Core.List.{List, _++_}
 use mathlib.Core.Option.{Option, none, some}
 use Prim.Native.Nat.{ℕ, _*_}
 use native.Mathlib.Omega.{arith}
-use lib.ListN.{length, drop}
+use lib.ListN.{length, drop, replicate, length-replicate}
 use lib.IntN.{ℤ}
-use Rattle.lists.specs.Parts.{gather}
+use Rattle.lists.specs.Parts.{gather, written}
 use Rattle.lists.specs.Laws.Unmet.{unmet-none, unmet-left}
 use Rattle.lists.specs.Laws.Write.{written-beyond}
 use Rattle.timing.specs.declared.Refusal.{Refusal}
 use Rattle.timing.specs.declared.Answer.the-variants.{Given, Refused}
+use Rattle.timing.specs.Limits.{workLength}
 use Rattle.timing.specs.Table.{Table, pinCount}
 use Rattle.timing.specs.Structure.{structure, times}
 use Rattle.timing.specs.Rows.{modeOf, rowLength, total}
 use Rattle.timing.specs.Check.{tableGrounds, tableFault}
-use Rattle.timing.specs.Asked.{askingGrounds, askingFault, tableRows, answerOf, answer, roomOf, roomAfter}
+use Rattle.timing.specs.Asked.{askingGrounds, askingFault, tableRows, answerOf, answer, roomOf, roomAfter, workOf, workAfter}
 use Rattle.timing.specs.Laws.Columns.{pins-is}
 use Rattle.timing.specs.Laws.Accepted.{accepted}
 use Rattle.timing.specs.Laws.Written.{rows-length}
@@ -30,6 +31,7 @@ pub record Granted (t : Table) (mode k : ℕ) (a : Answered t mode k) : Type 0 w
   pub totalled : a .total ≡ total (structure t)
   pub stand : roomRows (a .rows) (rowLength (pinCount t)) (a .room′) ≡ tableRows t mode k
   pub stays : drop (a .rows * rowLength (pinCount t)) (a .room′) ≡ drop (a .rows * rowLength (pinCount t)) (a .room)
+  pub cleared : a .work′ ≡ replicate workLength 0 ++ drop workLength (a .work)
 
 -- an asking without a refusal has a table without one
 pub table-fine : (t : Table) (mode k room work : ℕ) → askingFault t mode k room work ≡ none → tableFault t ≡ none
@@ -42,8 +44,13 @@ rows-numbers : (t : Table) (mode k : ℕ) → tableFault t ≡ none
 unfolding tableRows
 rows-numbers t mode k h = rw (← pins-is t) (rows-length (modeOf mode) (structure t) (times t) k (accepted t h .sound))
 
+-- zeros over the front of the work area
+front-zero : (n : ℕ) (work : List ℕ) → written (replicate n 0) work ≡ replicate n 0 ++ drop n work
+unfolding written
+front-zero n work = ap (λ (m : ℕ). replicate n 0 ++ drop m work) (length-replicate n 0)
+
 pub granted : (t : Table) (mode k : ℕ) (a : Answered t mode k) → Granted t mode k a
-unfolding answer answerOf roomAfter roomOf
+unfolding answer answerOf roomAfter roomOf workAfter workOf
 granted t mode k a = by-fault (askingFault t mode k (length (a .room)) (length (a .work))) refl
   where
     by-fault : (f : Option Refusal) → askingFault t mode k (length (a .room)) (length (a .work)) ≡ f → Granted t mode k a
@@ -60,4 +67,5 @@ granted t mode k a = by-fault (askingFault t mode k (length (a .room)) (length (
           totalled = cc;
           stand = rw (c, a .allowed .1) (room-rows t mode k (a .room) (length (a .work)) h);
           stays = rw (a .allowed .1, h, c, ← rows-numbers t mode k fine) (written-beyond (gather (λ (l : List ℤ). l) (tableRows t mode k)) (a .room));
+          cleared = (rw h at (a .allowed .2)) ∙ front-zero workLength (a .work);
         }
