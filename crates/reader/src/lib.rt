@@ -9,7 +9,8 @@ ghost use Rattle.timing.specs.Kinds.{hasTimes};
 ghost use Rattle.timing.specs.Refusals.{checkedOf};
 ghost use Rattle.timing.specs.Field.{digit, isMode, modeIn, wellFormed, value, numberOr0, kindOf, letter};
 ghost use Rattle.timing.specs.Line.{fieldOf, fieldCount, numberIn, sizesBad, designLine, pinFields, pinLine, fourLine, askLine, fourOf, pinOf};
-ghost use Rattle.timing.specs.Text.{lineOf, lineStart, dueLine, lineGrounds, askGrounds, dueOf, reading, roomFilled};
+ghost use Rattle.timing.specs.Text.{lineOf, lineStart, dueLine, lineGrounds, askGrounds, dueOf};
+ghost use Rattle.timing.specs.Contracts.{ReadAllows};
 ghost use Rattle.lists.specs.Laws.Cut.{endAt};
 ghost use Rattle.reader.specs.Cut.{startOf, over, nextAt, partsBehind};
 ghost use Rattle.lists.specs.Laws.Write.{sets};
@@ -683,7 +684,7 @@ fn fill(text: &[u8], table: &mut [u32], p: usize, n: usize)
 // Reads a text: refused, with the room as it was, or the table's length, the mode and k, with the table at the room's front.
 // Nothing is written before the last line and the room are accepted.
 pub fn read(text: &[u8], table: &mut [u32]) -> Reading
-    ensures { λ r. ⌜ (r ≡ reading (now (text .entry)) (length (now (table .entry)))) × (now (table .exit) ≡ roomFilled (now (text .entry)) (now (table .entry))) ⌝ }
+    ensures { λ r. ⌜ ReadAllows (now (text .entry)) (now (table .entry)) r (now (table .exit)) ⌝ }
 {
     let s = survey(text);
     match s {

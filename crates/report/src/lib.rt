@@ -12,7 +12,8 @@ ghost use Rattle.lists.specs.Parts.{written};
 ghost use Rattle.timing.specs.Limits.{mostPins, mostK, workLength};
 ghost use Rattle.timing.specs.Table.{testCount, arcFrom};
 ghost use Rattle.timing.specs.Refusals.{checkedOf};
-ghost use Rattle.timing.specs.Asked.{askingBad, roomBad, askingFault, answer, roomAfter, workAfter};
+ghost use Rattle.timing.specs.Asked.{askingBad, roomBad, askingFault};
+ghost use Rattle.timing.specs.Contracts.{AskAllows};
 ghost use Rattle.winners.specs.Standing.{Prepared, Standing};
 ghost use Rattle.report.specs.Rowed.{walkPlace, rowIn, Rowed};
 ghost use Rattle.report.specs.Writing.{Writes, rowsIn};
@@ -25,7 +26,7 @@ const WALK: usize = 6913;
 // The k worst paths of a table in a mode (0 setup, 1 hold), as rows at the front of the room: rows given and total, or the refusal, with which nothing is written.
 // After an answer the work area is zero over the length that is named for it. Places beyond stay, in both.
 pub fn ask(table: &[u32], mode: u32, k: usize, room: &mut [i64], work: &mut [u64]) -> Answer
-    ensures { λ r. ⌜ (r ≡ answer (now (table .entry)) mode k (length (now (room .entry))) (length (now (work .entry)))) × (now (room .exit) ≡ roomAfter (now (table .entry)) mode k (now (room .entry)) (length (now (work .entry)))) × (now (work .exit) ≡ workAfter (now (table .entry)) mode k (length (now (room .entry))) (now (work .entry))) ⌝ }
+    ensures { λ r. ⌜ AskAllows (now (table .entry)) mode k (now (room .entry)) (now (work .entry)) r (now (room .exit)) (now (work .exit)) ⌝ }
 {
     let checked = asking_fine(table, mode, k, room.len(), work.len());
     match checked {

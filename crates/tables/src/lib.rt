@@ -7,15 +7,15 @@ ghost use mathlib.Core.Path.{_≡_};
 ghost use Prim.Native.Nat.{_<_};
 ghost use lib.ListN.{getD};
 ghost use Rattle.lists.specs.Laws.Scan.{Lowest, bit, tally};
-ghost use Rattle.timing.specs.Refusals.{checkedOf};
 ghost use Rattle.timing.specs.Table.{pinCount, arcCount, testCount, periodOf, ofPin, ofArc, ofTest};
-ghost use Rattle.timing.specs.Check.{limitsBad, headerBad, rangeBad, pinBad, isRoot, endsBad, kindsBad, delayBad, intoBad, isOf, testBad, tableFault};
+ghost use Rattle.timing.specs.Check.{limitsBad, headerBad, rangeBad, pinBad, isRoot, endsBad, kindsBad, delayBad, intoBad, isOf, testBad};
 ghost use Rattle.timing.specs.Laws.Accepted.{HeaderFits};
+ghost use Rattle.timing.specs.Contracts.{CheckAllows};
 ghost use Rattle.tables.specs.Parts.{arcBad, arcRefusal, Counted};
 
 // Fine, or the refusal of the table with its place: 6, all pins 7, 8, then arc by arc 9, 10, 11, all pins 12, all tests 13.
 pub fn check(table: &[u32]) -> Checked
-    ensures { λ r. ⌜ r ≡ checkedOf (tableFault (now (table .entry))) ⌝ }
+    ensures { λ r. ⌜ CheckAllows (now (table .entry)) r ⌝ }
 {
     if header_bad(table) {
         return Checked::Refused(Refusal::TableHeader);
