@@ -7,9 +7,9 @@ The first form makes N random designs (default 320), asks each for setup and for
 order. The last line is 'N passed, 0 failed'; exit status 1 if any failed. Without OpenSTA it says so and passes nothing; with --required that is a failure. The
 second form prints the slacks that OpenSTA has for one text.
 
-A text is translated to a netlist. R and each B and K is a buffer, whose delay is R's own range or the range of the arc that enters. A K also drives the clock of
-a flip-flop that launches, and of one flip-flop that captures for each test. A D is a gate with one input for each arc that enters. All delays, setup and hold
-times stand in an SDF file. Inputs have an input delay against a clock of their own, so OpenSTA finds no common pin for them, as document 01 wants.
+A text is translated to a netlist. R and each B and K is a buffer, whose delay is R's own range or the range of the arc that enters. A K also drives the clock
+of a flip-flop that launches, and of one flip-flop that captures for each test. A D is a gate with one input for each arc that enters. All delays, setup and
+hold times stand in an SDF file. Inputs have an input delay against a clock of their own, so OpenSTA finds no common pin for them, as document 01 wants.
 
 What is left out, and why:
 - Designs with no test: there is nothing to compare.

@@ -1,0 +1,99 @@
+"""The benchmark's own designs, in series: each series grows in one quantity, the last in all of them. The same designs come out each time.
+
+Of each there are two kinds. With a common clock, tests differ widely in their worst slack, and a reporter may leave most of them out. With a split clock none
+can be left out by what all tests have in common: R has two branches with wide ranges, and one test hangs on the second. So no credit is shared by all tests,
+while every path has that of its branch, far more than slacks differ. A split clock comes without inputs, since their paths have no credit.
+"""
+
+import random
+from typing import NamedTuple
+
+import plans
+
+PERIOD = 20_000
+
+
+class Shape(NamedTuple):
+    """The sizes of a design, and whether its clock is split."""
+    split: bool
+    pins: int
+    arcs: int
+    tests: int
+
+    def name(self):
+        """The kind and the sizes."""
+        return f"{'split' if self.split else 'common'}-{self.pins}-{self.arcs}-{self.tests}"
+
+
+# Each series: the quantity that grows, what stays, and the sizes.
+ARCS = [(256, arcs, 64) for arcs in (320, 448, 576, 704, 864, 1024)]
+TESTS = [(256, 1024, tests) for tests in (2, 4, 8, 16, 32, 64)]
+PINS = [(pins, 1024, 64) for pins in (96, 128, 160, 192, 224, 256)]
+SIZES = [(16, 32, 4), (32, 64, 8), (64, 192, 16), (128, 448, 32), (256, 1024, 64)]
+
+
+def ranged(chance, least, most):
+    """A range of delays."""
+    return sorted((chance.randint(least, most), chance.randint(least, most)))
+
+
+def clock_counts(pins, split):
+    """How many B, K and I a design has. Designs of one series but the last have as many as the largest."""
+    return max(3, pins // 32), max(4, pins // 8), 0 if split else max(1, pins // 64)
+
+
+def grow_clock(plan, chance, split, buffers, clocks):
+    """R, the buffers as a tree of two at each, the K on the lower half of them. With a split clock the last B and K are a branch."""
+    plan.pin("R", 0, 0 if split else 10)
+    tree = buffers - 1 if split else buffers
+    for place in range(buffers):
+        branch = place == 0 or place >= tree
+        pin = plan.pin("B")
+        wide = (1_000, 41_000) if split and branch else ranged(chance, 100, 160)
+        plan.arc(0 if branch else 1 + (place - 1) // 2, pin, *wide)
+    for place in range(clocks):
+        pin = plan.pin("K")
+        last = split and place == clocks - 1
+        plan.arc(buffers if last else chance.randint(1 + tree // 2, tree), pin, *ranged(chance, 20, 80))
+
+
+def data_ends(chance, starts, data, arcs):
+    """The ends of so many data arcs: one into each D, the rest anywhere; mostly from near pins, one of eight from any start."""
+    targets = list(data) + [chance.choice(data) for _ in range(arcs - len(data))]
+    ends = []
+    for pin in targets:
+        near = (starts + [p for p in data if p < pin])[-16:]
+        ends.append((chance.choice(starts if chance.random() < 0.125 else near), pin))
+    chance.shuffle(ends)
+    return ends
+
+
+def plan_of(shape, clock_of=256):
+    """The design of a shape, with as many clock pins and inputs as a design of `clock_of` pins has."""
+    chance = random.Random(shape.name())
+    plan = plans.Plan(PERIOD)
+    buffers, clocks, inputs = clock_counts(clock_of, shape.split)
+    grow_clock(plan, chance, shape.split, buffers, clocks)
+    ks = [pin for pin, row in enumerate(plan.pins) if row[0] == "K"]
+    own = ks.pop() if shape.split else None
+    starts = ks + [plan.pin("I", *ranged(chance, 0, 300)) for _ in range(inputs)]
+    data = [plan.pin("D") for _ in range(shape.pins - len(plan.pins))]
+    if shape.split:
+        plan.arc(own, data[-1], *ranged(chance, 5, 60))
+        own_data = data.pop()
+    for start, end in data_ends(chance, starts, data, shape.arcs - len(plan.arcs)):
+        plan.arc(start, end, *ranged(chance, 5, 60))
+    for _ in range(shape.tests - shape.split):
+        plan.test(chance.choice(ks), chance.choice(data[len(data) // 2:]), chance.randint(0, 50), chance.randint(0, 50))
+    if shape.split:
+        plan.test(own, own_data)
+    return plan
+
+
+def all_shapes():
+    """Every shape of every series, and of how many pins its clock part is."""
+    for split in (False, True):
+        for sizes in ARCS + TESTS + PINS:
+            yield Shape(split, *sizes), 256
+        for sizes in SIZES[:-1]:
+            yield Shape(split, *sizes), sizes[0]
