@@ -1,8 +1,10 @@
 """The benchmark's own designs, in series: each series grows in one quantity, the last in all of them. The same designs come out each time.
 
-Of each there are two kinds. With a common clock, tests differ widely in their worst slack, and a reporter may leave most of them out. With a split clock none
-can be left out by what all tests have in common: R has two branches with wide ranges, and one test hangs on the second. So no credit is shared by all tests,
-while every path has that of its branch, far more than slacks differ. A split clock comes without inputs, since their paths have no credit.
+Of each there are two kinds.
+- Common clock: data arcs at random, mostly between near pins. Tests differ in their worst slack, and a reporter may leave many of them out.
+- Split clock, made to cost as much as the writer could think of. No test can be left out by what all tests have in common: R has two branches with wide ranges,
+  and one test hangs on the second; so no credit is shared by all tests, while every path has that of its branch, far more than slacks differ. And no arc can
+  be passed over: the data pins are a chain, and of the arcs from one to the next each has a wider range than the one before it, so its paths are worse.
 """
 
 import random
@@ -38,7 +40,7 @@ def ranged(chance, least, most):
 
 
 def clock_counts(pins, split):
-    """How many B, K and I a design has. Designs of one series but the last have as many as the largest."""
+    """How many B, K and I a design has. With a split clock it has no I: a path from there has no credit."""
     return max(3, pins // 32), max(4, pins // 8), 0 if split else max(1, pins // 64)
 
 
@@ -57,19 +59,26 @@ def grow_clock(plan, chance, split, buffers, clocks):
         plan.arc(buffers if last else chance.randint(1 + tree // 2, tree), pin, *ranged(chance, 20, 80))
 
 
-def data_ends(chance, starts, data, arcs):
-    """The ends of so many data arcs: one into each D, the rest anywhere; mostly from near pins, one of eight from any start."""
-    targets = list(data) + [chance.choice(data) for _ in range(arcs - len(data))]
+def random_arcs(plan, chance, starts, data, arcs):
+    """So many data arcs: one into each D, the rest anywhere; mostly from near pins, one of eight from any start."""
     ends = []
-    for pin in targets:
+    for pin in list(data) + [chance.choice(data) for _ in range(arcs - len(data))]:
         near = (starts + [p for p in data if p < pin])[-16:]
         ends.append((chance.choice(starts if chance.random() < 0.125 else near), pin))
     chance.shuffle(ends)
-    return ends
+    for start, end in ends:
+        plan.arc(start, end, *ranged(chance, 5, 60))
+
+
+def chained_arcs(plan, chance, starts, data, arcs):
+    """So many data arcs, from one D to the next, into the first from any starts; each range wider than that of the arc before it."""
+    for place, pin in enumerate(data):
+        for wider in range(arcs // len(data) + (place < arcs % len(data))):
+            plan.arc(data[place - 1] if place else chance.choice(starts), pin, 40 - wider, 40 + wider)
 
 
 def plan_of(shape, clock_of=256):
-    """The design of a shape, with as many clock pins and inputs as a design of `clock_of` pins has."""
+    """The design of a shape, with as many clock pins and inputs as a design of `clock_of` pins has: so in a series these do not grow with the pins."""
     chance = random.Random(shape.name())
     plan = plans.Plan(PERIOD)
     buffers, clocks, inputs = clock_counts(clock_of, shape.split)
@@ -81,8 +90,7 @@ def plan_of(shape, clock_of=256):
     if shape.split:
         plan.arc(own, data[-1], *ranged(chance, 5, 60))
         own_data = data.pop()
-    for start, end in data_ends(chance, starts, data, shape.arcs - len(plan.arcs)):
-        plan.arc(start, end, *ranged(chance, 5, 60))
+    (chained_arcs if shape.split else random_arcs)(plan, chance, starts, data, shape.arcs - len(plan.arcs))
     for _ in range(shape.tests - shape.split):
         plan.test(chance.choice(ks), chance.choice(data[len(data) // 2:]), chance.randint(0, 50), chance.randint(0, 50))
     if shape.split:

@@ -127,7 +127,7 @@ def instructions(command, text, wanted, function=None):
 def first_line(command):
     """The first line that a command prints, or that it is absent."""
     if shutil.which(command[0]) is None:
-        return f"{command[0]}: absent"
+        return f"{command[0]} absent"
     run = subprocess.run(command, capture_output=True, text=True, check=False)
     return (run.stdout + run.stderr).splitlines()[0]
 
@@ -141,4 +141,5 @@ def machine():
     return [f"{model.group(1) if model else 'unknown processor'}, {os.cpu_count()} processors, {int(memory.group(1)) // 1_048_576} GiB; "
             f"{system.group(1)}",
             f"{first_line(['rt', 'version'])}; {first_line(['rustc', '--version'])}; {first_line(['gcc', '--version'])}",
-            f"{first_line(['valgrind', '--version'])}; OpenSTA {first_line(['sta', '-version'])}; Python {sys.version.split()[0]}"]
+            f"{first_line(['valgrind', '--version'])}; OpenSTA: {first_line(['sta', '-version'])}; Python {sys.version.split()[0]}; networkx: "
+            f"{first_line([sys.executable, '-c', 'import networkx; print(networkx.__version__)']) if found(networkx)[0] else 'absent'}"]
