@@ -21,7 +21,7 @@ ghost use Rattle.clocks.specs.Clocked as clocked;
 ghost use Rattle.engine.specs.Laid.{Ready};
 ghost use Rattle.engine.specs.Steps.{Counts};
 ghost use Rattle.winners.specs.Standing.{Prepared, Standing};
-ghost use Rattle.winners.specs.Winning.{Sown, countAt, recordOf, candidateOf, HasRank, Above, Come, LeastInto, Leasts, Shared, Next, AllBounds, Full, Sized, Adds, Queued, Waits, allowedAt, AllWinners};
+ghost use Rattle.winners.specs.Winning.{Sown, countAt, recordOf, candidateOf, HasRank, Above, Come, LeastInto, Leasts, Shared, Bounds, Next, AllBounds, Full, Sized, Adds, Queued, Waits, allowedAt, AllWinners};
 
 // The sorted arcs and the clock side of a table, for all tests.
 pub fn prepare(table: &[u32], mode: u32, work: &mut [u64])
@@ -40,14 +40,22 @@ fn seed(table: &[u32], mode: u32, work: &mut [u64], j: usize)
     clocks::seeds(table, mode, work, tables::of_test(table, 0, j));
 }
 
-// The seeds of test j, and the rows up to its data pin: a walk to it passes no later pin.
+// The rows of test j, whose seeds are laid, up to its data pin: a walk to it passes no later pin.
+fn raise_rows(table: &[u32], mode: u32, work: &mut [u64], j: usize)
+    requires { ⌜ Sown (now table) mode j (now work) × (j < testCount (now table)) ⌝ }
+    ensures { λ _. ⌜ Standing (now (table .entry)) mode j (now (work .exit)) ⌝ }
+{
+    let data = tables::of_test(table, 1, j);
+    engine::table(work, data + 1);
+}
+
+// The seeds and the rows of test j.
 pub fn lay(table: &[u32], mode: u32, work: &mut [u64], j: usize)
     requires { ⌜ Prepared (now table) mode (now work) × (j < testCount (now table)) ⌝ }
     ensures { λ _. ⌜ Standing (now (table .entry)) mode j (now (work .exit)) × (length (now (work .exit)) ≡ length (now (work .entry))) ⌝ }
 {
     seed(table, mode, work, j);
-    let data = tables::of_test(table, 1, j);
-    engine::table(work, data + 1);
+    raise_rows(table, mode, work, j);
 }
 
 // ---- the total
@@ -296,7 +304,18 @@ fn bounds_of(table: &[u32], mode: u32, work: &mut [u64]) -> [u32; Design::TESTS]
     bounds
 }
 
-// The candidates of test j enter, unless the first that its bound allows stays out: all of them would.
+// The least value of test j by its own seeds, which are laid.
+fn own_least(table: &[u32], mode: u32, work: &mut [u64], j: usize) -> u64
+    requires { ⌜ Prepared (now table) mode (now work) × (j < testCount (now table)) ⌝ }
+    ensures { λ r. ⌜ Bounds (now (table .entry)) mode j r × Sown (now (table .entry)) mode j (now (work .exit)) ⌝ }
+{
+    seed(table, mode, work, j);
+    least_values(work, tables::pin_count(table));
+    let data = tables::of_test(table, 1, j);
+    work[engine::COUNTS + data]
+}
+
+// The candidates of test j enter, unless the first that its bound allows stays out, or the first that its own least value allows: all of them would.
 fn take_test(
     table: &[u32],
     mode: u32,
@@ -313,7 +332,12 @@ fn take_test(
     if stays_out(won, first) {
         return won;
     }
-    lay(table, mode, work, j);
+    let least = own_least(table, mode, work, j);
+    let best = record_of(table, mode, work, j, least, 0);
+    if stays_out(won, best) {
+        return won;
+    }
+    raise_rows(table, mode, work, j);
     enter_test(table, mode, work, j, won)
 }
 

@@ -41,8 +41,8 @@ use Rattle.clocks.specs.Known.{test-clock}
 use Rattle.engine.specs.Area.{plan}
 use Rattle.engine.specs.Laid.{Small, Laid, Ready}
 use Rattle.engine.specs.Sorting.{weighing}
-use Rattle.winners.specs.Standing.{level, Prepared}
-use Rattle.winners.specs.Winning.{recordOf, Bounds, Above, leastAt, Leasts, Shared, nobody, Full, HoldsOf}
+use Rattle.winners.specs.Standing.{level, testSeed, Prepared}
+use Rattle.winners.specs.Winning.{Sown, recordOf, Bounds, Above, leastAt, Leasts, Shared, nobody, Full, HoldsOf}
 use Rattle.winners.specs.Laws.Prepared.{test-small, seeds-prepared, seeds-laid, laid-ready}
 use Rattle.winners.specs.Laws.Least.{plan-kept, least-value}
 use Rattle.winners.specs.Laws.Listed.{last-at}
@@ -146,6 +146,41 @@ module _ (t : Table) (mode y : ℕ) (w v : List ℕ) (p : Prepared t mode w) (l 
               small = omega (arith, f (getD W 0 []) n, test-small t mode j i h (dataPin S j) (getD W 0 []) (ok .data-in j d) n);
               least = f;
             };
+      }
+
+-- ---- the least values of a test by its own seeds
+
+module _ (t : Table) (mode j : ℕ) (l : j < testCount t) (w u : List ℕ) (p : Sown t mode j w) (r : Leasts w u (pinCount t)) where
+  plan-stays : plan u ≡ plan w
+  plan-stays = plan-kept w u (r .kept)
+
+  -- its seeds stay
+  pub still-sown : Sown t mode j u
+  still-sown =
+      record {
+        prepared = record {
+          clocked = clocked-kept t 5633 5889 w u (omega arith) (r .kept) (p .prepared .clocked);
+          by-arcs = rw plan-stays (p .prepared .by-arcs);
+        };
+        laid = rw plan-stays (p .laid);
+      }
+
+  -- and the least value at its data pin is a bound
+  pub own-bounds : Bounds t mode j (leastAt u (testData t j))
+  unfolding weighing
+  own-bounds =
+      let S = structure t in
+      let h = p .prepared .clocked .ready .checked in
+      let ok = accepted t h .sound in
+      let d : j < tests S = rw (tests-is t) l in
+      let W = walks S (dataPin S j) in
+      let least = least-value S (weighing t mode) (testSeed t mode j) (ok .to-in) w u (still-sown .laid) (rw (pins-is t) r) in
+      let f : (b : List ℕ) → In b W → leastAt u (testData t j) ≤ value (modeOf mode) level S (times t) (clockPin S j) b =
+      λ b n. rw (data-is t j l) at (least (dataPin S j) b n) in
+      let n : In (getD W 0 []) W = in-place [] W 0 (walks-some S ok (dataPin S j) (ok .data-in j d) (ok .data-kind j d)) in
+      record {
+        small = omega (arith, f (getD W 0 []) n, test-small t mode j l h (dataPin S j) (getD W 0 []) (ok .data-in j d) n);
+        least = f;
       }
 
 -- ---- a test that is left out
