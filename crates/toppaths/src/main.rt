@@ -4,7 +4,7 @@ use libc::STDOUT_FILENO;
 use timing::Answer;
 use timing::Reading;
 ghost use mathlib.Core.Path.{_≡_};
-ghost use Prim.Native.Nat.{_≤_};
+ghost use Prim.Native.Nat.{_+_, _≤_};
 ghost use lib.ListN.{length};
 ghost use Rattle.lists.specs.Laws.Write.{sets};
 ghost use Rattle.timing.specs.Limits.{workLength};
@@ -95,8 +95,54 @@ fn run(text: &[u8]) {
     io::write_all(STDOUT_FILENO, &out[..fits]);
 }
 
+// What was read: how many bytes, and whether no read failed.
+struct Input {
+    bytes: usize,
+    whole: bool,
+}
+
+// One read into the text, from a place on; 0 bytes at the end of the input.
+fn read_more(text: &mut [u8], from: usize) -> Input
+    requires { ⌜ from ≤ length (now text) ⌝ }
+    ensures { λ r. ⌜ from + r .bytes ≤ length (now (text .entry)) ⌝ }
+{
+    let end = text.len();
+    let got = libc::read(STDIN_FILENO, &mut text[from..end]);
+    let bytes = io::count(got, &text[from..end]);
+    Input {
+        bytes: bytes,
+        whole: 0 <= got,
+    }
+}
+
+// Reads standard input into the text until it is full, the input ends or a read fails.
+fn read_text(text: &mut [u8]) -> Input
+    ensures { λ r. ⌜ r .bytes ≤ length (now (text .entry)) ⌝ }
+{
+    let mut done = 0;
+    while done < text.len() {
+        let more = read_more(text, done);
+        let n = more.bytes;
+        if n == 0 {
+            return Input {
+                bytes: done,
+                whole: more.whole,
+            };
+        }
+        done += n;
+    }
+    Input {
+        bytes: done,
+        whole: true,
+    }
+}
+
+// A read that fails ends the program with nothing printed: a part of a text is no text.
 fn main() {
     let mut text = text_room();
-    let n = io::read_full(STDIN_FILENO, &mut text);
-    run(&text[..n]);
+    let input = read_text(&mut text);
+    let n = input.bytes;
+    if input.whole {
+        run(&text[..n]);
+    }
 }
