@@ -3,7 +3,8 @@
 
     tests/ends.py PROGRAM
 
-The program must end by itself with status 0 and write nothing on standard error. Its last line is 'N passed, M failed'.
+The program must end by itself with status 0 and write nothing on standard error. What a large answer must be comes from the second implementation. The last line is
+'N passed, M failed'.
 """
 import os
 import pathlib
@@ -12,9 +13,22 @@ import sys
 import time
 
 ROOT = pathlib.Path(__file__).resolve().parent.parent
+sys.path.insert(0, str(ROOT / 'reference'))
+
+import toppaths  # noqa: E402
+
 SHEET = (ROOT / 'crates/toppaths/stdin').read_bytes()
 PRINTED = (ROOT / 'crates/toppaths/stdout').read_bytes()
 LARGE = (ROOT / 'bench/designs/ladder-hold.in').read_bytes()
+
+
+def longest():
+    """A design of the most pins with the longest paths, 254 arcs, and more than 16 of them: a chain with some arcs twice."""
+    arcs = [(0, 1)] + [(pin, pin + 1) for pin in range(1, 255)] + [(pin, pin + 1) for pin in range(1, 6)]
+    lines = [f'design\t256\t{len(arcs)}\t1\t1000000', 'pin\tR\t0\t7', 'pin\tK'] + ['pin\tD'] * 254
+    lines += [f'arc\t{low}\t{high}\t{place}\t{1000 * place}' for place, (low, high) in enumerate(arcs)]
+    lines += ['test\t1\t255\t3\t4', 'ask\tsetup\t16']
+    return ''.join(line + '\n' for line in lines).encode()
 
 
 def run(program, **named):
@@ -69,6 +83,7 @@ def main():
         ('the reader of a large answer goes away', left_early(program, LARGE)),
         ('input in pieces of 100 bytes', in_pieces(program, SHEET, 100) == PRINTED),
         ('input byte by byte', in_pieces(program, SHEET, 1) == PRINTED),
+        ('16 rows of 254 arcs', run(program, input=longest(), stdout=subprocess.PIPE) == toppaths.printed(longest())),
         ('an empty input', run(program, input=b'', stdout=subprocess.PIPE) == b'refused\t2\t1\n'),
         ('input without an end', from_path(program, '/dev/zero') == b'refused\t1\t0\n'),
         ('65,537 bytes', run(program, input=b'x' * 65537, stdout=subprocess.PIPE) == b'refused\t1\t0\n'),

@@ -1,7 +1,7 @@
 // What the case programs share: numbers in stored data, a sum over what is left in lent memory, printing.
 use libc::STDOUT_FILENO;
 ghost use mathlib.Core.Path.{_≡_};
-ghost use Prim.Native.Nat.{_≤_, _<_};
+ghost use Prim.Native.Nat.{_+_, _*_, _%_, _≤_, _<_, min};
 ghost use lib.ListN.{length};
 
 // Room for one record of stored data.
@@ -12,7 +12,9 @@ pub fn space() -> [u8; 66000]
 }
 
 // The next length in the stored data: four bytes, the lowest first.
-pub fn next_length(fd: i32) -> u64 {
+pub fn next_length(fd: i32) -> u64
+    ensures { λ r. ⌜ r < 4294967296 ⌝ }
+{
     let mut four = [0u8; 4];
     io::read_full(fd, &mut four);
     wide(four[0]) + 256 * wide(four[1]) + 65536 * wide(four[2]) + 16777216 * wide(four[3])
@@ -29,6 +31,7 @@ fn byte_at(stored: &[u8], at: usize) -> u64
     }
 }
 
+// A byte as a number.
 pub fn wide(b: u8) -> u64
     ensures { λ r. ⌜ r < 256 ⌝ }
 {
@@ -48,7 +51,9 @@ pub fn on(stored: &[u8], at: usize, count: usize) -> usize
 }
 
 // The number at a place of the stored data: one byte to 250; else 251 and two bytes, or 252 and four, the lowest first.
-pub fn number_at(stored: &[u8], at: usize) -> u64 {
+pub fn number_at(stored: &[u8], at: usize) -> u64
+    ensures { λ r. ⌜ r < 4294967296 ⌝ }
+{
     let b = byte_at(stored, at);
     if b <= 250 {
         return b;
@@ -74,7 +79,10 @@ pub fn behind(stored: &[u8], at: usize) -> usize
     on(stored, at, 5)
 }
 
-pub fn wide32(x: u32) -> u64 {
+// The same number in more bits.
+pub fn wide32(x: u32) -> u64
+    ensures { λ r. ⌜ r ≡ x ⌝ }
+{
     x as u64
 }
 
@@ -86,12 +94,16 @@ pub fn cut(x: u64, most: usize) -> usize
 }
 
 // A stored number of at most 32 bits; the most that 32 bits hold, if it is more.
-pub fn narrow(x: u64) -> u32 {
+pub fn narrow(x: u64) -> u32
+    ensures { λ r. ⌜ r ≡ min x 4294967295 ⌝ }
+{
     if x < 4294967296 { x as u32 } else { 4294967295 }
 }
 
 // One number more in a sum that depends on order and on every place.
-pub fn mix(total: u64, value: u64) -> u64 {
+pub fn mix(total: u64, value: u64) -> u64
+    ensures { λ r. ⌜ r ≡ (total % 1000003 * 131 + value % 1000003 + 1) % 1000003 ⌝ }
+{
     ((total % 1000003) * 131 + value % 1000003 + 1) % 1000003
 }
 

@@ -22,7 +22,7 @@ use Rattle.worst.specs.Candidates.{candidateAt, rankedList}
 use Rattle.worst.specs.Laws.Kept.{Holds}
 use Rattle.clocks.specs.Clocked.{ClockPin, Clocked}
 use Rattle.clocks.specs.Area.{Kept}
-use Rattle.engine.specs.Area.{none, plan, wordAt, firstAt, fromIn, weightIn}
+use Rattle.engine.specs.Area.{none, plan, wordAt, firstAt, fromIn, weightIn, seedsAt, countsAt, restAt}
 use Rattle.engine.specs.Laid.{Laid}
 use Rattle.engine.specs.Sorting.{weighing}
 use Rattle.engine.specs.Entries.{entries}
@@ -35,7 +35,7 @@ pub record Sown (t : Table) (mode j : ℕ) (w : List ℕ) : Type 0 where
 
 -- what is counted at the data pin of test j
 abbrev pub countAt : Table → List ℕ → ℕ → ℕ
-countAt t w j = getD w (5633 + testData t j) 0
+countAt t w j = getD w (countsAt + testData t j) 0
 
 -- the record of test j for a value and a serial: the value raised and lowered by what the test alone decides
 abbrev pub recordOf : Table → ℕ → ℕ → ℕ → ℕ → Candidate
@@ -70,18 +70,18 @@ pub record Above (t : Table) (n y : ℕ) : Type 0 where
 
 -- the least value at pin v
 abbrev pub leastAt : List ℕ → ℕ → ℕ
-leastAt w v = getD w (5633 + v) 0
+leastAt w v = getD w (countsAt + v) 0
 
 -- r is at most what a walk has come to that goes on from pin p: at a start its seed, else the least value at the pin
 pub record Come (w : List ℕ) (p r : ℕ) : Type 0 where
   pub most : r ≤ none
-  pub start : getD w (5377 + p) 0 < none → r ≤ getD w (5377 + p) 0
-  pub other : none ≤ getD w (5377 + p) 0 → r ≤ leastAt w p
+  pub start : getD w (seedsAt + p) 0 < none → r ≤ getD w (seedsAt + p) 0
+  pub other : none ≤ getD w (seedsAt + p) 0 → r ≤ leastAt w p
 
 -- r is at most what the arc with the word x brings
 pub record Under (w : List ℕ) (x r : ℕ) : Type 0 where
-  pub start : getD w (5377 + fromIn x) 0 < none → r ≤ getD w (5377 + fromIn x) 0 + weightIn x
-  pub other : none ≤ getD w (5377 + fromIn x) 0 → r ≤ leastAt w (fromIn x) + weightIn x
+  pub start : getD w (seedsAt + fromIn x) 0 < none → r ≤ getD w (seedsAt + fromIn x) 0 + weightIn x
+  pub other : none ≤ getD w (seedsAt + fromIn x) 0 → r ≤ leastAt w (fromIn x) + weightIn x
 
 -- and at most what each arc into pin v brings
 pub record LeastInto (w : List ℕ) (v r : ℕ) : Type 0 where
@@ -90,7 +90,7 @@ pub record LeastInto (w : List ℕ) (v r : ℕ) : Type 0 where
 
 -- the least values of the pins below p stand, and they alone are new
 pub record Leasts (w₀ w : List ℕ) (p : ℕ) : Type 0 where
-  pub kept : Kept 5633 5889 w₀ w
+  pub kept : Kept countsAt restAt w₀ w
   pub under : (v : ℕ) → v < p → LeastInto w v (leastAt w v)
 
 -- the value at each data pin is at most those of its test

@@ -18,6 +18,7 @@ ghost use Rattle.timing.specs.Rows.{total};
 ghost use Rattle.timing.specs.Ranked.{newCount, listAfter};
 ghost use Rattle.clocks.specs.Clocked.{Clocked, Tested};
 ghost use Rattle.clocks.specs.Clocked as clocked;
+ghost use Rattle.engine.specs.Area.{restAt};
 ghost use Rattle.engine.specs.Laid.{Ready};
 ghost use Rattle.engine.specs.Steps.{Counts};
 ghost use Rattle.winners.specs.Standing.{Prepared, Standing};
@@ -237,7 +238,7 @@ fn lesser(a: u64, b: u64) -> u64
 
 // What a walk has come to that goes on from pin p: at a start its seed, else the least value at the pin.
 fn come_to(work: &[u64], p: usize) -> u64
-    requires { ⌜ (p < 256) × (5889 ≤ length (now work)) ⌝ }
+    requires { ⌜ (p < 256) × (restAt ≤ length (now work)) ⌝ }
     ensures { λ r. ⌜ Come (now (work .entry)) p r ⌝ }
 {
     let seed = work[engine::SEEDS + p];

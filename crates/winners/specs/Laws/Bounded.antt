@@ -38,7 +38,7 @@ use Rattle.clocks.specs.Area.{Kept, seedsAt, seedsEnd}
 use Rattle.clocks.specs.Clocked.{ClockPin, Common, Seeded}
 use Rattle.clocks.specs.Kept.{clocked-kept}
 use Rattle.clocks.specs.Known.{test-clock}
-use Rattle.engine.specs.Area.{plan}
+use Rattle.engine.specs.Area.{plan, countsAt, restAt}
 use Rattle.engine.specs.Laid.{Small, Laid, Ready}
 use Rattle.engine.specs.Sorting.{weighing}
 use Rattle.winners.specs.Standing.{level, testSeed, Prepared}
@@ -128,7 +128,7 @@ module _ (t : Table) (mode y : ℕ) (w v : List ℕ) (p : Prepared t mode w) (l 
       let least = least-value S (weighing t mode) seed (ok .to-in) v u (rw e shared-laid) (rw (pins-is t) r) in
       record {
         prepared = record {
-          clocked = clocked-kept t 5633 5889 v u (omega arith) (r .kept) (q .clocked);
+          clocked = clocked-kept t countsAt restAt v u (omega arith) (r .kept) (q .clocked);
           by-arcs = rw e (q .by-arcs);
         };
         bounds = λ j i.
@@ -159,7 +159,7 @@ module _ (t : Table) (mode j : ℕ) (l : j < testCount t) (w u : List ℕ) (p : 
   still-sown =
       record {
         prepared = record {
-          clocked = clocked-kept t 5633 5889 w u (omega arith) (r .kept) (p .prepared .clocked);
+          clocked = clocked-kept t countsAt restAt w u (omega arith) (r .kept) (p .prepared .clocked);
           by-arcs = rw plan-stays (p .prepared .by-arcs);
         };
         laid = rw plan-stays (p .laid);

@@ -22,7 +22,7 @@ use Rattle.clocks.specs.Clocked.{ClockPin, Clocked, Seeded, seedFor}
 use Rattle.clocks.specs.Kept.{kept-take, clocked-kept, clocked-drop, clocked-same}
 use Rattle.clocks.specs.Known.{test-clock}
 use Rattle.clocks.specs.Small.{seed-small}
-use Rattle.engine.specs.Area.{plan}
+use Rattle.engine.specs.Area.{plan, planAt, planLength, countsAt}
 use Rattle.engine.specs.Laid.{Ordered, Arcs, Small, Laid, Ready}
 use Rattle.engine.specs.Steps.{Tabled}
 use Rattle.engine.specs.Sorting.{weighing}
@@ -31,17 +31,17 @@ use Rattle.engine.specs.Laws.Kept.{arcs-kept, seeds-are}
 use Rattle.winners.specs.Standing.{level, testSeed, Prepared, Standing}
 use Rattle.winners.specs.Winning.{Sown}
 
--- the plan stands below place 5,633
-pub plan-same : (w v : List ℕ) → length v ≡ length w → ((i : ℕ) → i < 5633 → getD v i 0 ≡ getD w i 0) → plan v ≡ plan w
+-- the plan stands before the counts
+pub plan-same : (w v : List ℕ) → length v ≡ length w → ((i : ℕ) → i < countsAt → getD v i 0 ≡ getD w i 0) → plan v ≡ plan w
 plan-same w v n same =
     ext-getD 0 (plan v) (plan w) same-length
-    (λ i l. let h : i < 1537 = omega (arith, short v, l) in plan-at v i h ∙ same (4096 + i) (omega arith) ∙ sym (plan-at w i h))
+    (λ i l. let h : i < planLength = omega (arith, short v, l) in plan-at v i h ∙ same (planAt + i) (omega arith) ∙ sym (plan-at w i h))
   where
     same-length : length (plan v) ≡ length (plan w)
-    same-length = unfold plan in simp (length-take, length-drop) (ap (λ (n : ℕ). min 1537 (n - 4096)) n)
+    same-length = unfold plan in simp (length-take, length-drop) (ap (λ (n : ℕ). min planLength (n - planAt)) n)
 
-    short : (u : List ℕ) → length (plan u) ≤ 1537
-    short u = unfold plan in omega (arith, length-take 1537 (drop 4096 u))
+    short : (u : List ℕ) → length (plan u) ≤ planLength
+    short u = unfold plan in omega (arith, length-take planLength (drop planAt u))
 
 module _ (t : Table) (h : tableFault t ≡ none) where
   pub few-pins : pins (structure t) ≤ 256
@@ -61,7 +61,7 @@ module _ (t : Table) (mode : ℕ) where
   clocks-prepared w v a c k =
       record {
         clocked = c;
-        by-arcs = arcs-kept (structure t) (weighing t mode) v w (few-pins t (c .ready .checked)) (kept-take clocksAt freeAt w v k 5377 (omega arith)) a;
+        by-arcs = arcs-kept (structure t) (weighing t mode) v w (few-pins t (c .ready .checked)) (kept-take clocksAt freeAt w v k seedsAt (omega arith)) a;
       }
 
   -- seeds are written between the arcs and the clock side
@@ -69,7 +69,7 @@ module _ (t : Table) (mode : ℕ) where
   seeds-prepared w v p k =
       record {
         clocked = clocked-kept t seedsAt seedsEnd w v (omega arith) k (p .clocked);
-        by-arcs = arcs-kept (structure t) (weighing t mode) v w (few-pins t (p .clocked .ready .checked)) (kept-take seedsAt seedsEnd w v k 5377 (omega arith)) (p .by-arcs);
+        by-arcs = arcs-kept (structure t) (weighing t mode) v w (few-pins t (p .clocked .ready .checked)) (kept-take seedsAt seedsEnd w v k seedsAt (omega arith)) (p .by-arcs);
       }
 
   -- the seeds of clock pin y make the area laid, where no value against y is large
@@ -121,13 +121,13 @@ module _ (t : Table) (mode : ℕ) where
       }
 
   -- they are written before the arcs
-  pub rows-plan : (w v : List ℕ) → drop 4096 v ≡ drop 4096 w → plan v ≡ plan w
+  pub rows-plan : (w v : List ℕ) → drop planAt v ≡ drop planAt w → plan v ≡ plan w
   unfolding plan
-  rows-plan w v e = ap (take 1537) e
+  rows-plan w v e = ap (take planLength) e
 
-  pub rows-prepared : (w v : List ℕ) → Prepared t mode w → length v ≡ length w → drop 4096 v ≡ drop 4096 w → Prepared t mode v
+  pub rows-prepared : (w v : List ℕ) → Prepared t mode w → length v ≡ length w → drop planAt v ≡ drop planAt w → Prepared t mode v
   rows-prepared w v p n k =
-      let d : drop clocksAt v ≡ drop clocksAt w = sym (drop-drop 1793 4096 v) ∙ ap (drop 1793) k ∙ drop-drop 1793 4096 w in
+      let d : drop clocksAt v ≡ drop clocksAt w = sym (drop-drop 1793 planAt v) ∙ ap (drop 1793) k ∙ drop-drop 1793 planAt w in
       record { clocked = clocked-drop t w v n d (p .clocked); by-arcs = rw (rows-plan w v k) (p .by-arcs) }
 
   -- the rows of a test
