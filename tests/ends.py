@@ -16,6 +16,7 @@ ROOT = pathlib.Path(__file__).resolve().parent.parent
 sys.path.insert(0, str(ROOT / 'reference'))
 
 import toppaths  # noqa: E402
+from results import told  # noqa: E402
 
 SHEET = (ROOT / 'crates/toppaths/stdin').read_bytes()
 PRINTED = (ROOT / 'crates/toppaths/stdout').read_bytes()
@@ -89,12 +90,7 @@ def main():
         ('65,537 bytes', run(program, input=b'x' * 65537, stdout=subprocess.PIPE) == b'refused\t1\t0\n'),
         ('65,536 bytes', run(program, input=b'x' * 65536, stdout=subprocess.PIPE) == b'refused\t2\t1\n'),
     ]
-    for name, good in results:
-        if not good:
-            print('FAILED:', name)
-    failed = sum(not good for _, good in results)
-    print(f'{len(results) - failed} passed, {failed} failed')
-    return 1 if failed else 0
+    return told(results)
 
 
 if __name__ == '__main__':

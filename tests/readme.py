@@ -10,6 +10,8 @@ import re
 import subprocess
 import sys
 
+from results import told
+
 ROOT = pathlib.Path(__file__).resolve().parent.parent
 
 
@@ -41,21 +43,16 @@ def main():
     sheet = sheet_lines(next(b for b in shown if b.startswith('design')))
     answer = next(b for b in shown if b.startswith('path')).replace(' ', '\t')
     stored = (ROOT / 'crates/toppaths/stdin').read_text(encoding='utf-8')
-    told = examples(page)
+    shown_cases = examples(page)
     results = [
         ('the sheet of the page is the stored one', ''.join(line + '\n' for line in sheet) == stored),
         ('the sheet prints what the page shows', printed(program, sheet) == answer),
-        ('each refusal that a text can show has an example', sorted({no for no, _, _, _ in told}) == [2, 3, 4, *range(6, 15)]),
+        ('each refusal that a text can show has an example', sorted({no for no, _, _, _ in shown_cases}) == [2, 3, 4, *range(6, 15)]),
     ]
-    for no, line, becomes, says in told:
+    for no, line, becomes, says in shown_cases:
         changed = sheet[: line - 1] + [becomes] + sheet[line:]
         results.append((f'the example of refusal {no}', says.split('\t')[1] == str(no) and printed(program, changed) == says))
-    for name, good in results:
-        if not good:
-            print('FAILED:', name)
-    failed = sum(not good for _, good in results)
-    print(f'{len(results) - failed} passed, {failed} failed')
-    return 1 if failed else 0
+    return told(results)
 
 
 if __name__ == '__main__':
