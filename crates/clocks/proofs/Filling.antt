@@ -17,7 +17,7 @@ use Rattle.timing.specs.Check.{tableFault}
 use Rattle.timing.specs.Laws.Common.{only-in}
 use Rattle.timing.specs.Laws.Columns.{pins-is, arcs-is, enters-is}
 use Rattle.timing.specs.Laws.Accepted.{accepted}
-use Rattle.clocks.specs.Area.{Kept, arrivalsAt, clocksAt, parentsAt, depthsAt, freeAt}
+use Rattle.area.specs.Area.{Kept, arrivalsAt, clocksAt, parentsAt, depthsAt, turnsAt}
 use Rattle.clocks.specs.Clocked.{Ready, ClockPin, Parented, ClockedTo, Clocked}
 use Rattle.clocks.specs.Turn.{Next, Arrives}
 use Rattle.clocks.specs.Small.{few-pins, arc-place}
@@ -85,7 +85,7 @@ pub record Going (t : Table) (p : ℕ) (w₀ w : List ℕ) : Type 0 where
   pub most : p ≤ pinCount t
   pub parents : Parented t w
   pub so-far : ClockedTo t p w
-  pub kept : Kept clocksAt freeAt w₀ w
+  pub kept : Kept clocksAt turnsAt w₀ w
 
 pub going-none : (t : Table) (w : List ℕ) → Ready t w → Parented t w → Going t 0 w w
 going-none t w r h =

@@ -16,7 +16,7 @@ use Rattle.timing.specs.Laws.Routes.{root-only}
 use Rattle.timing.specs.Laws.Common.{depth, common-same, common-deeper, common-other}
 use Rattle.timing.specs.Laws.Columns.{kind-is}
 use Rattle.timing.specs.Laws.Accepted.{accepted}
-use Rattle.clocks.specs.Area.{parentsAt, depthsAt}
+use Rattle.area.specs.Area.{parentsAt, depthsAt}
 use Rattle.clocks.specs.Clocked.{ClockPin, Parented, Clocked, Common}
 use Rattle.clocks.specs.Small.{pin-place}
 use Rattle.clocks.specs.Tree.{Driven, driven, root-depth}

@@ -18,7 +18,7 @@ use Rattle.timing.specs.Rows.{modeOf}
 use Rattle.timing.specs.Value.{creditFrom, seedOf, raise, lower}
 use Rattle.timing.specs.Laws.Columns.{tests-is, kind-is, clock-is, data-is}
 use Rattle.timing.specs.Laws.Accepted.{accepted}
-use Rattle.clocks.specs.Area.{Kept, seedsAt, seedsEnd, arrivalsAt}
+use Rattle.area.specs.Area.{Kept, seedsAt, creditsAt, arrivalsAt}
 use Rattle.clocks.specs.Clocked.{ClockPin, Clocked, Asks, seedFor, Seeded}
 use Rattle.clocks.specs.Small.{few-pins, arrival-most}
 use Rattle.clocks.specs.Known.{test-clock, test-data}
@@ -120,7 +120,7 @@ pub record Seeding (m : Mode) (t : Table) (c p : ℕ) (w₀ w : List ℕ) : Type
   pub clock : ClockPin t c
   pub most : p ≤ pinCount t
   pub so-far : Seeded m t c p w
-  pub kept : Kept seedsAt seedsEnd w₀ w
+  pub kept : Kept seedsAt creditsAt w₀ w
 
 pub seeding-none : (m : Mode) (t : Table) (c : ℕ) (w : List ℕ) → Clocked t w → ClockPin t c → Seeding m t c 0 w w
 seeding-none m t c w k h =
@@ -128,7 +128,7 @@ seeding-none m t c w k h =
 
 module _ (m : Mode) (t : Table) (c p : ℕ) (w₀ w : List ℕ) (s : Seeding m t c p w₀ w) (l : p < pinCount t) where
   pub seeding-asks : Asks t w c p
-  seeding-asks = record { clocked = clocked-kept t seedsAt seedsEnd w₀ w (omega arith) (s .kept) (s .clocked); clock = s .clock; inside = l }
+  seeding-asks = record { clocked = clocked-kept t seedsAt creditsAt w₀ w (omega arith) (s .kept) (s .clocked); clock = s .clock; inside = l }
 
   pub seeding-step : (v : ℕ) → v ≡ seedFor m t c p → Seeding m t c (p + 1) w₀ (set w (5377 + p) v)
   seeding-step v e =

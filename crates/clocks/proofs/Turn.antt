@@ -11,7 +11,7 @@ use Rattle.timing.specs.Table.{Table, Edge, pinKind, arcFrom, arcTime}
 use Rattle.timing.specs.Structure.{structure, times}
 use Rattle.timing.specs.Clock.{climb, clockArrival}
 use Rattle.timing.specs.Laws.Columns.{kind-is}
-use Rattle.clocks.specs.Area.{arrivalsAt, parentsAt, depthsAt}
+use Rattle.area.specs.Area.{arrivalsAt, parentsAt, depthsAt}
 use Rattle.clocks.specs.Clocked.{ClockPin}
 use Rattle.clocks.specs.Turn.{NextDriven}
 use Rattle.clocks.specs.Small.{few-pins, arrival-most, depth-most}

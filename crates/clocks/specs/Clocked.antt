@@ -17,7 +17,8 @@ use Rattle.timing.specs.Clock.{climb, common, clockArrival}
 use Rattle.timing.specs.Slack.{Mode, forSetup, forHold}
 use Rattle.timing.specs.Value.{creditFrom, seedOf}
 use Rattle.timing.specs.Check.{tableFault}
-use Rattle.clocks.specs.Area.{noSeed, seedsAt, arrivalsAt, parentsAt, depthsAt}
+use Rattle.area.specs.Area.{seedsAt, arrivalsAt, parentsAt, depthsAt}
+use Rattle.area.specs.Area as area
 
 -- ---- what is asked
 
@@ -104,7 +105,7 @@ launched forHold = early
 -- the seed of a K or an I; none at any other pin
 unfoldable pub seedFor : Mode → Table → ℕ → ℕ → ℕ
 seedFor m t c p =
-    pick (eqb (kind (structure t) p) K || eqb (kind (structure t) p) I) (seedOf m (λ q. q) (structure t) (times t) c p) noSeed
+    pick (eqb (kind (structure t) p) K || eqb (kind (structure t) p) I) (seedOf m (λ q. q) (structure t) (times t) c p) area.none
 
 -- at each pin below n its seed
 pub record Seeded (m : Mode) (t : Table) (c n : ℕ) (w : List ℕ) : Type 0 where

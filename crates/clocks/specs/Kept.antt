@@ -10,7 +10,7 @@ use Rattle.timing.specs.Table.{Table, Edge, early, late, pinCount}
 use Rattle.timing.specs.Structure.{enters, structure}
 use Rattle.timing.specs.Laws.Columns.{pins-is}
 use Rattle.timing.specs.Laws.Accepted.{accepted}
-use Rattle.clocks.specs.Area.{Kept, arrivalsAt, clocksAt, parentsAt, depthsAt, freeAt}
+use Rattle.area.specs.Area.{Kept, arrivalsAt, clocksAt, parentsAt, depthsAt, turnsAt}
 use Rattle.clocks.specs.Clocked.{Ready, Parented, ClockedTo, Clocked}
 
 -- ---- any parts
@@ -58,7 +58,7 @@ module _ (a e : ℕ) (w v : List ℕ) (k : Kept a e w v) where
 
 -- ---- what the clock side has written stays where the area stays from place 5,889 on
 
-module _ (t : Table) (w v : List ℕ) (long : length v ≡ length w) (same : (i : ℕ) → clocksAt ≤ i → i < freeAt → getD v i 0 ≡ getD w i 0) (r : Ready t w) where
+module _ (t : Table) (w v : List ℕ) (long : length v ≡ length w) (same : (i : ℕ) → clocksAt ≤ i → i < turnsAt → getD v i 0 ≡ getD w i 0) (r : Ready t w) where
   few : pinCount t ≤ 256
   few = accepted t (r .checked) .header .few-pins
 
@@ -85,7 +85,7 @@ module _ (t : Table) (w v : List ℕ) (long : length v ≡ length w) (same : (i 
       came late p l = same (6145 + p) (omega arith) (omega (arith, few))
 
 -- place by place
-pub clocked-same : (t : Table) (w v : List ℕ) → length v ≡ length w → ((i : ℕ) → clocksAt ≤ i → i < freeAt → getD v i 0 ≡ getD w i 0)
+pub clocked-same : (t : Table) (w v : List ℕ) → length v ≡ length w → ((i : ℕ) → clocksAt ≤ i → i < turnsAt → getD v i 0 ≡ getD w i 0)
     → Clocked t w → Clocked t v
 clocked-same t w v long same h =
     record {

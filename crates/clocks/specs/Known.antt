@@ -19,7 +19,7 @@ use Rattle.timing.specs.Value.{seedOf}
 use Rattle.timing.specs.Check.{tableFault}
 use Rattle.timing.specs.Laws.Columns.{pins-is, tests-is, kind-is, clock-is, data-is}
 use Rattle.timing.specs.Laws.Accepted.{accepted}
-use Rattle.clocks.specs.Area.{noSeed}
+use Rattle.area.specs.Area as area
 use Rattle.clocks.specs.Clocked.{ClockPin, Clocked, Spans, creditIn, seedFor}
 use Rattle.clocks.specs.Small.{few-pins, arrival-order, seed-small}
 
@@ -61,15 +61,15 @@ module _ (m : Mode) (t : Table) (c p : ℕ) where
   seed-start (inl e) = rw e
   seed-start (inr e) = rw e
 
-  pub seed-none : kind (structure t) p ≢ K → kind (structure t) p ≢ I → seedFor m t c p ≡ noSeed
+  pub seed-none : kind (structure t) p ≢ K → kind (structure t) p ≢ I → seedFor m t c p ≡ area.none
   unfolding seedFor pick
   seed-none n o = rw (ne-eqb (kind (structure t) p) K n, ne-eqb (kind (structure t) p) I o)
 
   -- a start's is below 2 ^ 30
-  pub seed-light : tableFault t ≡ none → ClockPin t c → p < pinCount t → seedFor m t c p < noSeed → seedFor m t c p < 1073741824
+  pub seed-light : tableFault t ≡ none → ClockPin t c → p < pinCount t → seedFor m t c p < area.none → seedFor m t c p < 1073741824
   unfolding seedFor pick
   seed-light h k l = go (eqb (kind (structure t) p) K || eqb (kind (structure t) p) I)
     where
-      go : (b : Bool) → pick b (seedOf m (λ q. q) (structure t) (times t) c p) noSeed < noSeed → pick b (seedOf m (λ q. q) (structure t) (times t) c p) noSeed < 1073741824
+      go : (b : Bool) → pick b (seedOf m (λ q. q) (structure t) (times t) c p) area.none < area.none → pick b (seedOf m (λ q. q) (structure t) (times t) c p) area.none < 1073741824
       go true g = seed-small t h m c p k l
       go false g = absurd (omega arith)

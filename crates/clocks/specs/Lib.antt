@@ -1,5 +1,4 @@
 -- The clock side of a checked table, in a lent work area.
-pub mod Area
 pub mod Clocked
 pub mod Turn
 pub mod Kept

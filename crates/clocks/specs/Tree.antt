@@ -20,7 +20,7 @@ use Rattle.timing.specs.Laws.Common.{only-in, root-none}
 use Rattle.timing.specs.Laws.Ranged.{clock-root, clock-step}
 use Rattle.timing.specs.Laws.Columns.{pins-is, arcs-is, kind-is, leaves-is, enters-is}
 use Rattle.timing.specs.Laws.Accepted.{accepted, accepted-level}
-use Rattle.clocks.specs.Area.{parentsAt}
+use Rattle.area.specs.Area.{parentsAt}
 use Rattle.clocks.specs.Clocked.{ClockPin, Parented}
 use Rattle.clocks.specs.Small.{pin-place}
 

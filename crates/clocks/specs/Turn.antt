@@ -9,7 +9,7 @@ use Rattle.timing.specs.Kinds.{B, K}
 use Rattle.timing.specs.Table.{Table, early, late, pinCount}
 use Rattle.timing.specs.Structure.{kind, structure, times}
 use Rattle.timing.specs.Clock.{climb, clockArrival}
-use Rattle.clocks.specs.Area.{arrivalsAt, depthsAt}
+use Rattle.area.specs.Area.{arrivalsAt, depthsAt}
 use Rattle.clocks.specs.Clocked.{Ready, ClockPin, Parented, ClockedTo}
 
 -- parents are known, the pins below p are done, and p is next

@@ -10,26 +10,9 @@ ghost use Rattle.timing.specs.Structure.{structure, times};
 ghost use Rattle.timing.specs.Slack.{startArrival};
 ghost use Rattle.timing.specs.Rows.{modeOf};
 ghost use Rattle.timing.specs.Value.{raise, lower};
-ghost use Rattle.clocks.specs.Area.{Kept, seedsAt, seedsEnd, clocksAt, parentsAt, depthsAt, freeAt};
+ghost use Rattle.area.specs.Area.{Kept, seedsAt, creditsAt, clocksAt, parentsAt, depthsAt, turnsAt};
 ghost use Rattle.clocks.specs.Clocked.{Ready, ClockPin, Parented, Clocked, Two, Asks, Starts, Tested, Common, Spans, Credited, Seed, creditIn, launched, seedFor, Seeded};
 ghost use Rattle.clocks.specs.Turn.{Next, NextDriven, Arrives, withClocking};
-
-// Where the parts of the work area begin that are written here, each a place for each pin: what a start brings to the test at hand,
-const SEEDS: usize = 5377;
-
-// the early and the late clock arrivals,
-const EARLY: usize = 5889;
-
-const LATE: usize = 6145;
-
-// the arc that comes into the pin,
-const PARENTS: usize = 6401;
-
-// and how many arcs lead from R to it.
-const DEPTHS: usize = 6657;
-
-// The seed of a pin that is no start.
-const NONE: u64 = 1152921504606846976;
 
 // No clock arrival is later.
 const BASE: u64 = 256000000;
@@ -75,7 +58,7 @@ pub fn parents(table: &[u32], work: &mut [u64])
     let mut a = 0;
     while a < n {
         let to = tables::of_arc(table, 1, a);
-        put(work, PARENTS, to, word(a));
+        put(work, area::PARENTS, to, word(a));
         a += 1;
     }
 }
@@ -85,7 +68,7 @@ fn parent(table: &[u32], work: &[u64], p: usize) -> usize
     requires { ⌜ parentsAt + p < length (now work) ⌝ }
     ensures { λ r. ⌜ r ≡ arcFrom (now (table .entry)) (getD (now (work .entry)) (parentsAt + p) 0) ⌝ }
 {
-    tables::of_arc(table, 0, count(at(work, PARENTS, p)))
+    tables::of_arc(table, 0, count(at(work, area::PARENTS, p)))
 }
 
 // When the clock comes to a pin, and over how many arcs.
@@ -100,12 +83,12 @@ fn driven(table: &[u32], work: &[u64], p: usize) -> Clocking
     requires { ⌜ NextDriven (now table) p (now work) ⌝ }
     ensures { λ r. ⌜ Arrives (now (table .entry)) p (r .early) (r .late) (r .depth) ⌝ }
 {
-    let a = count(at(work, PARENTS, p));
+    let a = count(at(work, area::PARENTS, p));
     let from = tables::of_arc(table, 0, a);
     Clocking {
-        early: at(work, EARLY, from) + word(tables::of_arc(table, 2, a)),
-        late: at(work, LATE, from) + word(tables::of_arc(table, 3, a)),
-        depth: at(work, DEPTHS, from) + 1,
+        early: at(work, area::EARLY, from) + word(tables::of_arc(table, 2, a)),
+        late: at(work, area::LATE, from) + word(tables::of_arc(table, 3, a)),
+        depth: at(work, area::DEPTHS, from) + 1,
     }
 }
 
@@ -138,15 +121,15 @@ fn put_clocking(work: &mut [u64], p: usize, c: Clocking)
     requires { ⌜ depthsAt + p < length (now work) ⌝ }
     ensures { λ _. ⌜ now (work .exit) ≡ withClocking (now (work .entry)) p (c .early) (c .late) (c .depth) ⌝ }
 {
-    put(work, EARLY, p, c.early);
-    put(work, LATE, p, c.late);
-    put(work, DEPTHS, p, c.depth);
+    put(work, area::EARLY, p, c.early);
+    put(work, area::LATE, p, c.late);
+    put(work, area::DEPTHS, p, c.depth);
 }
 
 // Arrivals and depth of each clock pin, the pins ascending: every arc rises, so a pin comes after the pin that drives it.
 pub fn arrivals(table: &[u32], work: &mut [u64])
     requires { ⌜ Ready (now table) (now work) × Parented (now table) (now work) ⌝ }
-    ensures { λ _. ⌜ Clocked (now (table .entry)) (now (work .exit)) × Kept clocksAt freeAt (now (work .entry)) (now (work .exit)) ⌝ }
+    ensures { λ _. ⌜ Clocked (now (table .entry)) (now (work .exit)) × Kept clocksAt turnsAt (now (work .entry)) (now (work .exit)) ⌝ }
 {
     let n = tables::pin_count(table);
     let mut p = 0;
@@ -160,7 +143,7 @@ pub fn arrivals(table: &[u32], work: &mut [u64])
 // The clock side of a table: parents, arrivals and depths. What stands in the area before and behind them stays.
 pub fn clocks(table: &[u32], work: &mut [u64])
     requires { ⌜ Ready (now table) (now work) ⌝ }
-    ensures { λ _. ⌜ Clocked (now (table .entry)) (now (work .exit)) × Kept clocksAt freeAt (now (work .entry)) (now (work .exit)) ⌝ }
+    ensures { λ _. ⌜ Clocked (now (table .entry)) (now (work .exit)) × Kept clocksAt turnsAt (now (work .entry)) (now (work .exit)) ⌝ }
 {
     parents(table, work);
     arrivals(table, work);
@@ -177,7 +160,7 @@ pub fn common_pin(table: &[u32], work: &[u64], p: usize, q: usize) -> usize
     let mut a = p;
     let mut b = q;
     while a != b {
-        if at(work, DEPTHS, a) < at(work, DEPTHS, b) {
+        if at(work, area::DEPTHS, a) < at(work, area::DEPTHS, b) {
             b = parent(table, work, b);
         } else {
             a = parent(table, work, a);
@@ -191,7 +174,7 @@ pub fn credit_at(work: &[u64], p: usize) -> u64
     requires { ⌜ Spans (now work) p ⌝ }
     ensures { λ r. ⌜ r ≡ creditIn (now (work .entry)) p ⌝ }
 {
-    at(work, LATE, p) - at(work, EARLY, p)
+    at(work, area::LATE, p) - at(work, area::EARLY, p)
 }
 
 // The credit of a path from pin p to a test with the clock pin c: from a K that of their common pin, else 0.
@@ -217,9 +200,9 @@ fn start_arrival(table: &[u32], mode: u32, work: &[u64], p: usize) -> u64
 {
     if tables::of_pin(table, 0, p) == Kind::K {
         if mode == 0 {
-            return at(work, LATE, p);
+            return at(work, area::LATE, p);
         }
-        return at(work, EARLY, p);
+        return at(work, area::EARLY, p);
     }
     if mode == 0 {
         return word(tables::of_pin(table, 2, p));
@@ -252,20 +235,20 @@ fn seed_for(table: &[u32], mode: u32, work: &[u64], c: usize, p: usize) -> u64
     if start {
         seed_at(table, mode, work, c, p)
     } else {
-        NONE
+        area::NONE
     }
 }
 
 // The seeds of a test with the clock pin c, one for each pin.
 pub fn seeds(table: &[u32], mode: u32, work: &mut [u64], c: usize)
     requires { ⌜ Clocked (now table) (now work) × ClockPin (now table) c ⌝ }
-    ensures { λ _. ⌜ Seeded (modeOf mode) (now (table .entry)) c (pinCount (now (table .entry))) (now (work .exit)) × Kept seedsAt seedsEnd (now (work .entry)) (now (work .exit)) ⌝ }
+    ensures { λ _. ⌜ Seeded (modeOf mode) (now (table .entry)) c (pinCount (now (table .entry))) (now (work .exit)) × Kept seedsAt creditsAt (now (work .entry)) (now (work .exit)) ⌝ }
 {
     let n = tables::pin_count(table);
     let mut p = 0;
     while p < n {
         let seed = seed_for(table, mode, work, c, p);
-        put(work, SEEDS, p, seed);
+        put(work, area::SEEDS, p, seed);
         p += 1;
     }
 }
@@ -277,7 +260,7 @@ pub fn raise_of(table: &[u32], mode: u32, work: &[u64], j: usize) -> u64
 {
     if mode == 0 {
         let clock = tables::of_test(table, 0, j);
-        at(work, EARLY, clock) + word(tables::period_of(table))
+        at(work, area::EARLY, clock) + word(tables::period_of(table))
     } else {
         0
     }
@@ -293,6 +276,6 @@ pub fn lower_of(table: &[u32], mode: u32, work: &[u64], j: usize) -> u64
         word(tables::of_test(table, 2, j)) + word(height) + BASE
     } else {
         let clock = tables::of_test(table, 0, j);
-        at(work, LATE, clock) + word(tables::of_test(table, 3, j))
+        at(work, area::LATE, clock) + word(tables::of_test(table, 3, j))
     }
 }

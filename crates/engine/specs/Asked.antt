@@ -10,7 +10,7 @@ use Rattle.timing.specs.Limits.{mostTotal}
 use Rattle.timing.specs.Paths.{isStart}
 use Rattle.timing.specs.Paths as Paths
 use Rattle.timing.specs.Value.{valueOf, rankedWalks}
-use Rattle.engine.specs.Area.{none, plan, seedAt, restAt, countsAt}
+use Rattle.area.specs.Area.{none, plan, seedAt, clocksAt, countsAt}
 use Rattle.engine.specs.Entries.{entries}
 use Rattle.engine.specs.Laid.{Laid}
 use Rattle.engine.specs.Steps.{Made}
@@ -39,7 +39,7 @@ Valued w v rank x =
 
 -- there is room for a walk from v in the caller's part of the work area
 pub record Room (w : List ℕ) (v at : ℕ) : Type 0 where
-  pub behind : restAt ≤ at
+  pub behind : clocksAt ≤ at
   pub inside : at + v ≤ length w
 
 -- the walk at the rank, n arcs, stands at place `at` of the work area, and it alone is new
@@ -52,6 +52,6 @@ pub record Walked (w₀ : List ℕ) (v rank at : ℕ) (w : List ℕ) (n : ℕ) :
 -- the counts stand, and they alone are new: of each pin that is no start the number of walks from it, or 1,000,000,000 if there are more
 pub record Counted (w₀ w : List ℕ) (p : ℕ) : Type 0 where
   pub front : take countsAt w ≡ take countsAt w₀
-  pub back : drop restAt w ≡ drop restAt w₀
+  pub back : drop clocksAt w ≡ drop clocksAt w₀
   pub walks : (s : Structure) (weight seed : ℕ → ℕ) → Laid s weight seed (plan w₀) → (v : ℕ) → v < p → v < pins s → isStart s v ≡ false
       → getD w (countsAt + v) 0 ≡ min mostTotal (length (Paths.walks s v))

@@ -6,7 +6,7 @@ use lib.ListN.{getD, take, drop}
 use lib.Dec.{ltb}
 use Rattle.lists.specs.Choice.{pick}
 use Rattle.lists.specs.Parts.{those}
-use Rattle.engine.specs.Area.{none, fromIn, arcIn, seedsAt, planAt}
+use Rattle.area.specs.Area.{none, fromIn, arcIn, seedsAt, arcsAt}
 use Rattle.engine.specs.Entries.{placeIn, rankIn}
 
 -- the keys of pin v
@@ -17,6 +17,6 @@ rowOf w v = those (λ (k : ℕ). ltb k none) (take 16 (drop (v * 16) w))
 unfoldable pub walkIn : List ℕ → ℕ → ℕ → List ℕ
 walkIn w zero k = []
 walkIn w (suc n) k =
-    arcIn (getD w (planAt + placeIn k) 0)
-    ∷ pick (ltb (getD w (seedsAt + fromIn (getD w (planAt + placeIn k) 0)) 0) none) []
-    (walkIn w n (getD w (fromIn (getD w (planAt + placeIn k) 0) * 16 + rankIn k) 0))
+    arcIn (getD w (arcsAt + placeIn k) 0)
+    ∷ pick (ltb (getD w (seedsAt + fromIn (getD w (arcsAt + placeIn k) 0)) 0) none) []
+    (walkIn w n (getD w (fromIn (getD w (arcsAt + placeIn k) 0) * 16 + rankIn k) 0))

@@ -15,7 +15,7 @@ use Rattle.lists.specs.Rank.{by}
 use Rattle.lists.specs.Laws.Top.{rankTop}
 use Rattle.lists.specs.Laws.Count.{countTo}
 use Rattle.timing.specs.Limits.{mostTotal}
-use Rattle.engine.specs.Area.{none, wordAt, firstAt, seedAt, weightIn, fromIn, arcIn}
+use Rattle.area.specs.Area.{none, wordAt, firstAt, seedAt, weightIn, fromIn, arcIn}
 
 abbrev pub valueIn : ℕ → ℕ
 valueIn k = k / 16384

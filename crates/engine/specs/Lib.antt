@@ -1,5 +1,4 @@
 -- The k-best table of one test: how it stands in the work area, what it is made from, and what its rows stand for.
-pub mod Area
 pub mod Entries
 pub mod Laid
 pub mod Steps

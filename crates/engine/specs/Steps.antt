@@ -12,7 +12,7 @@ use Rattle.lists.specs.Laws.Member.{All}
 use Rattle.lists.specs.Laws.Ranking.{Sorted}
 use Rattle.lists.specs.Laws.Count.{countTo}
 use Rattle.timing.specs.Limits.{mostTotal}
-use Rattle.engine.specs.Area.{none, plan, wordAt, firstAt, seedAt, weightIn, fromIn, restAt, countsAt, planAt}
+use Rattle.area.specs.Area.{none, plan, wordAt, firstAt, seedAt, weightIn, fromIn, clocksAt, countsAt, arcsAt}
 use Rattle.engine.specs.Entries.{moved, least, reaching, entries}
 
 -- ---- a row
@@ -43,7 +43,7 @@ pub record Pours (w : List ℕ) (u d i : ℕ) (row : List ℕ) : Type 0 where
   pub source : Source w u
   pub light : d < 70368744177664
   pub place : i < 1024
-  pub long : planAt ≤ length w
+  pub long : arcsAt ≤ length w
   pub is-row : Row row
 
 -- ---- a pin's row
@@ -57,14 +57,14 @@ brought w m v =
 
 -- the pins that the arcs into v leave have their rows
 pub record Gathers (w : List ℕ) (v : ℕ) : Type 0 where
-  pub long : restAt ≤ length w
+  pub long : clocksAt ≤ length w
   pub pin : v < 256
   pub fits : firstAt (plan w) (v + 1) ≤ 1024
   pub sources : (i : ℕ) → firstAt (plan w) v ≤ i → i < firstAt (plan w) (v + 1) → Source w (fromIn (wordAt (plan w) i))
 
 -- what the row of v is made from is there
 pub record Fills (w : List ℕ) (v : ℕ) : Type 0 where
-  pub long : restAt ≤ length w
+  pub long : clocksAt ≤ length w
   pub pin : v < 256
   pub light : seedAt (plan w) v < none → seedAt (plan w) v < 1073741824
   pub gathers : none ≤ seedAt (plan w) v → Gathers w v
@@ -90,20 +90,20 @@ Rows w m n = (u r : ℕ) → u < n → r < 16 → getD w (u * 16 + r) 0 ≡ getD
 
 -- the table of the first p pins stands
 pub record Made (w : List ℕ) (p : ℕ) : Type 0 where
-  pub long : restAt ≤ length w
+  pub long : clocksAt ≤ length w
   pub sane : Sane (plan w) p
   pub rows : Rows w (plan w) p
 
 -- and it alone is new: what stands behind the keys is as before
 pub record Tabled (w₀ w : List ℕ) (p : ℕ) : Type 0 where
   pub made : Made w p
-  pub rest : drop planAt w ≡ drop planAt w₀
+  pub rest : drop arcsAt w ≡ drop arcsAt w₀
 
 -- ---- counting
 
 -- the arcs into v stand where the work area says
 pub record Counts (w : List ℕ) (v : ℕ) : Type 0 where
-  pub long : restAt ≤ length w
+  pub long : clocksAt ≤ length w
   pub pin : v < 256
   pub fits : firstAt (plan w) (v + 1) ≤ 1024
 

@@ -11,7 +11,7 @@ use Rattle.lists.specs.Parts.{each}
 use Rattle.timing.specs.Structure.{Structure, pins}
 use Rattle.timing.specs.Paths.{isStart}
 use Rattle.timing.specs.Value.{valueOf, rankedWalks}
-use Rattle.engine.specs.Area.{plan}
+use Rattle.area.specs.Area.{plan}
 use Rattle.engine.specs.Entries.{valueIn}
 use Rattle.engine.specs.Laid.{Laid}
 use Rattle.engine.specs.Steps.{Made}

@@ -30,11 +30,11 @@ use Rattle.timing.specs.Laws.Columns.{pins-is, arcs-is, tests-is, leaves-is, cl
 use Rattle.timing.specs.Laws.Walked.{Walk, walks-sound, last-arc, walk-rises, walk-arcs}
 use Rattle.worst.specs.Candidates.{testWalks, bestWalks, candidatesOf, pathOf}
 use Rattle.worst.specs.Laws.Merged.{in-candidates, candidate-walk}
-use Rattle.clocks.specs.Area.{freeAt}
+use Rattle.area.specs.Area.{turnsAt}
 use Rattle.clocks.specs.Clocked.{Credited}
 use Rattle.clocks.specs.Known.{test-clock, test-data}
 use Rattle.clocks.specs.Small.{credit-most}
-use Rattle.engine.specs.Area.{plan}
+use Rattle.area.specs.Area.{plan}
 use Rattle.engine.specs.Asked.{AtRank, Room, Walked}
 use Rattle.engine.specs.Sorting.{weighing}
 use Rattle.engine.specs.Laws.Traced.{entries-count}
@@ -45,7 +45,7 @@ use Rattle.report.specs.Row.{signed, arcPlaces, rowOf, Puts}
 
 -- where a walk is written: behind what the clock side keeps
 abbrev pub walkPlace : ℕ
-walkPlace = freeAt
+walkPlace = turnsAt
 
 -- the path that a candidate of the table stands for
 abbrev pub pathIn : Table → ℕ → Candidate → Path

@@ -21,7 +21,7 @@ ghost use Rattle.report.specs.Answered.{Granted, Answers};
 ghost use Rattle.report.specs.Row.{signed, headOf, arcPlaces, rowOf, Fits, Backwards, Puts};
 
 // Where a walk is written in the work area: behind what the clock side keeps.
-const WALK: usize = 6913;
+const WALK: usize = area::TURNS;
 
 // The k worst paths of a table in a mode (0 setup, 1 hold), as rows at the front of the room: rows given and total, or the refusal, with which nothing is written.
 // After an answer the work area is zero over the length that is named for it. Places beyond stay, in both.

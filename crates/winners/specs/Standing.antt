@@ -7,7 +7,7 @@ use Rattle.timing.specs.Structure.{structure, times, clockPin}
 use Rattle.timing.specs.Rows.{modeOf}
 use Rattle.timing.specs.Value.{seedOf}
 use Rattle.clocks.specs.Clocked.{Clocked}
-use Rattle.engine.specs.Area.{plan}
+use Rattle.area.specs.Area.{plan}
 use Rattle.engine.specs.Laid.{Arcs, Laid}
 use Rattle.engine.specs.Steps.{Made}
 use Rattle.engine.specs.Sorting.{weighing}

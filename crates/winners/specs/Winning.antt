@@ -21,8 +21,8 @@ use Rattle.timing.specs.declared.Candidate.{Candidate}
 use Rattle.worst.specs.Candidates.{candidateAt, rankedList}
 use Rattle.worst.specs.Laws.Kept.{Holds}
 use Rattle.clocks.specs.Clocked.{ClockPin, Clocked}
-use Rattle.clocks.specs.Area.{Kept}
-use Rattle.engine.specs.Area.{none, plan, wordAt, firstAt, fromIn, weightIn, seedsAt, countsAt, restAt}
+use Rattle.area.specs.Area.{Kept}
+use Rattle.area.specs.Area.{none, plan, wordAt, firstAt, fromIn, weightIn, seedsAt, countsAt, clocksAt}
 use Rattle.engine.specs.Laid.{Laid}
 use Rattle.engine.specs.Sorting.{weighing}
 use Rattle.engine.specs.Entries.{entries}
@@ -90,7 +90,7 @@ pub record LeastInto (w : List ℕ) (v r : ℕ) : Type 0 where
 
 -- the least values of the pins below p stand, and they alone are new
 pub record Leasts (w₀ w : List ℕ) (p : ℕ) : Type 0 where
-  pub kept : Kept countsAt restAt w₀ w
+  pub kept : Kept countsAt clocksAt w₀ w
   pub under : (v : ℕ) → v < p → LeastInto w v (leastAt w v)
 
 -- the value at each data pin is at most those of its test

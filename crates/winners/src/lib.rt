@@ -18,7 +18,7 @@ ghost use Rattle.timing.specs.Rows.{total};
 ghost use Rattle.timing.specs.Ranked.{newCount, listAfter};
 ghost use Rattle.clocks.specs.Clocked.{Clocked, Tested};
 ghost use Rattle.clocks.specs.Clocked as clocked;
-ghost use Rattle.engine.specs.Area.{restAt};
+ghost use Rattle.area.specs.Area.{clocksAt};
 ghost use Rattle.engine.specs.Laid.{Ready};
 ghost use Rattle.engine.specs.Steps.{Counts};
 ghost use Rattle.winners.specs.Standing.{Prepared, Standing};
@@ -83,7 +83,7 @@ fn add_counts(table: &[u32], work: &[u64]) -> u64
     let mut test = 0;
     while test < n {
         let data = tables::of_test(table, 1, test);
-        sum = add_capped(sum, work[engine::COUNTS + data]);
+        sum = add_capped(sum, work[area::COUNTS + data]);
         test += 1;
     }
     sum
@@ -238,14 +238,14 @@ fn lesser(a: u64, b: u64) -> u64
 
 // What a walk has come to that goes on from pin p: at a start its seed, else the least value at the pin.
 fn come_to(work: &[u64], p: usize) -> u64
-    requires { ⌜ (p < 256) × (restAt ≤ length (now work)) ⌝ }
+    requires { ⌜ (p < 256) × (clocksAt ≤ length (now work)) ⌝ }
     ensures { λ r. ⌜ Come (now (work .entry)) p r ⌝ }
 {
-    let seed = work[engine::SEEDS + p];
-    if seed < engine::NONE {
+    let seed = work[area::SEEDS + p];
+    if seed < area::NONE {
         return seed;
     }
-    lesser(work[engine::COUNTS + p], engine::NONE)
+    lesser(work[area::COUNTS + p], area::NONE)
 }
 
 // The least value that the arcs into pin v bring.
@@ -253,11 +253,11 @@ fn least_into(work: &[u64], v: usize) -> u64
     requires { ⌜ Counts (now work) v ⌝ }
     ensures { λ r. ⌜ LeastInto (now (work .entry)) v r ⌝ }
 {
-    let mut i = work[engine::FIRSTS + v] as usize;
-    let end = work[engine::FIRSTS + v + 1] as usize;
-    let mut least = engine::NONE;
+    let mut i = work[area::FIRSTS + v] as usize;
+    let end = work[area::FIRSTS + v + 1] as usize;
+    let mut least = area::NONE;
     while i < end {
-        let word = work[engine::ARCS + i];
+        let word = work[area::ARCS + i];
         let from = come_to(work, (word / 1024 % 256) as usize);
         least = lesser(least, from + word / 262144);
         i += 1;
@@ -273,7 +273,7 @@ fn least_values(work: &mut [u64], pins: usize)
     let mut v = 0;
     while v < pins {
         let least = least_into(work, v);
-        work[engine::COUNTS + v] = least;
+        work[area::COUNTS + v] = least;
         v += 1;
     }
 }
@@ -299,7 +299,7 @@ fn bounds_of(table: &[u32], mode: u32, work: &mut [u64]) -> [u32; Design::TESTS]
     let mut test = 0;
     while test < n {
         let data = tables::of_test(table, 1, test);
-        bounds[test] = work[engine::COUNTS + data] as u32;
+        bounds[test] = work[area::COUNTS + data] as u32;
         test += 1;
     }
     bounds
@@ -313,7 +313,7 @@ fn own_least(table: &[u32], mode: u32, work: &mut [u64], j: usize) -> u64
     seed(table, mode, work, j);
     least_values(work, tables::pin_count(table));
     let data = tables::of_test(table, 1, j);
-    work[engine::COUNTS + data]
+    work[area::COUNTS + data]
 }
 
 // The candidates of test j enter, unless the first that its bound allows stays out, or the first that its own least value allows: all of them would.

@@ -30,7 +30,7 @@ use Rattle.timing.specs.Paths.{isStart, walksBy, walks}
 use Rattle.timing.specs.Value.{valueOf}
 use Rattle.timing.specs.Laws.Routes.{in-into}
 use Rattle.timing.specs.Laws.Walked.{Walk, walks-sound}
-use Rattle.engine.specs.Area.{none, plan, wordAt, firstAt, seedAt, weightIn, fromIn, arcIn}
+use Rattle.area.specs.Area.{none, plan, wordAt, firstAt, seedAt, weightIn, fromIn, arcIn}
 use Rattle.engine.specs.Entries.{valueIn, placeIn, moved, over, least, reaching, entries, walkBy}
 use Rattle.engine.specs.Laid.{Laid, Ready}
 use Rattle.engine.specs.Steps.{Sane}

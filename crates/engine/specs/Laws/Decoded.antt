@@ -15,7 +15,7 @@ use Rattle.lists.specs.Parts.{below, those, each}
 use Rattle.lists.specs.Laws.Cases.{by-test}
 use Rattle.lists.specs.Laws.Join.{those-join}
 use Rattle.lists.specs.Laws.Member.{All, each-cong, in-below}
-use Rattle.engine.specs.Area.{none, plan, wordAt, seedAt, fromIn, arcIn}
+use Rattle.area.specs.Area.{none, plan, wordAt, seedAt, fromIn, arcIn}
 use Rattle.engine.specs.Entries.{placeIn, rankIn, entries, walkBy}
 use Rattle.engine.specs.Steps.{Made}
 use Rattle.engine.specs.Decoded.{rowOf, walkIn}

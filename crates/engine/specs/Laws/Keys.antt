@@ -19,7 +19,7 @@ use Rattle.lists.specs.Laws.Member.{In, in-below, gather-cong}
 use Rattle.lists.specs.Laws.Join.{each-join}
 use Rattle.lists.specs.Laws.Column.{column-length, column-at}
 use Rattle.lists.specs.Laws.Top.{rankTop, rank-top, rank-parts}
-use Rattle.engine.specs.Area.{none, wordAt, firstAt, seedAt, weightIn, fromIn}
+use Rattle.area.specs.Area.{none, wordAt, firstAt, seedAt, weightIn, fromIn}
 use Rattle.engine.specs.Entries.{valueIn, placeIn, rankIn, moved, over, least, reaching, entriesBy, entries}
 
 -- ---- lists

@@ -19,7 +19,7 @@ use Rattle.lists.specs.Laws.Cases.{by-test}
 use Rattle.lists.specs.Laws.Member.{All, all-of, of-all, in-take, in-below, each-cong}
 use Rattle.lists.specs.Laws.Join.{gather-more}
 use Rattle.lists.specs.Laws.Ranking.{Sorted, sorted-rank, perm-in, perm-back, perm-rank}
-use Rattle.engine.specs.Area.{none, plan, wordAt, firstAt, seedAt, weightIn, fromIn}
+use Rattle.area.specs.Area.{none, plan, wordAt, firstAt, seedAt, weightIn, fromIn}
 use Rattle.engine.specs.Entries.{moved, over, least, reaching, entries}
 use Rattle.engine.specs.Steps.{Row, empty, Source, pouring, brought, Fills, rowFor, Sane, Rows, Tabled}
 use Rattle.engine.specs.Laws.Keys.{getD-in, least-is, least-join, entries-start, entries-other, entries-length}

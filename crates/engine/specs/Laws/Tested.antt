@@ -15,8 +15,8 @@ use Rattle.timing.specs.Value.{seedOf}
 use Rattle.timing.specs.Check.{tableFault}
 use Rattle.timing.specs.Laws.Accepted.{accepted, accepted-level}
 use Rattle.timing.specs.Laws.Valued.{value-most, seed-most}
-use Rattle.engine.specs.Area.{plan}
-use Rattle.engine.specs.Area as area
+use Rattle.area.specs.Area.{plan}
+use Rattle.area.specs.Area as area
 use Rattle.engine.specs.Laid.{Arcs, Laid}
 use Rattle.engine.specs.Sorting.{weighing}
 use Rattle.engine.specs.Laws.Sorted.{whole-ordered}

@@ -22,7 +22,7 @@ use Rattle.timing.specs.Clock.{into}
 use Rattle.timing.specs.Paths.{isStart, walksBy, walks}
 use Rattle.timing.specs.Value.{valueOf, rankedWalks}
 use Rattle.timing.specs.Laws.Routes.{in-into}
-use Rattle.engine.specs.Area.{none, plan, wordAt, firstAt, seedAt, weightIn, fromIn, arcIn}
+use Rattle.area.specs.Area.{none, plan, wordAt, firstAt, seedAt, weightIn, fromIn, arcIn}
 use Rattle.engine.specs.Entries.{valueIn, placeIn, rankIn, moved, over, least, reaching, entries, walkBy}
 use Rattle.engine.specs.Laid.{Ordered, Laid}
 use Rattle.engine.specs.Steps.{Sane}

@@ -13,7 +13,7 @@ use Rattle.timing.specs.Rows.{modeOf}
 use Rattle.timing.specs.declared.Candidate.{Candidate}
 use Rattle.worst.specs.Candidates.{candidatesOf}
 use Rattle.worst.specs.Laws.Kept.{Holds}
-use Rattle.engine.specs.Area.{plan}
+use Rattle.area.specs.Area.{plan}
 use Rattle.engine.specs.Entries as engine
 use Rattle.winners.specs.Standing.{level}
 use Rattle.winners.specs.Winning.{Sized, HoldsOf}

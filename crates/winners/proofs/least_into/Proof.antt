@@ -8,7 +8,7 @@ use native.Mathlib.Omega.{arith}
 use native.Mathlib.Decide.{ℕ-discrete}
 use borrow.Author.Needs.{needs}
 use lib.ListN.{getD}
-use Rattle.engine.specs.Area.{none, plan, wordAt, firstAt, fromIn, weightIn}
+use Rattle.area.specs.Area.{none, plan, wordAt, firstAt, fromIn, weightIn}
 use Rattle.engine.specs.Laws.Made.{word-at, first-at}
 use Rattle.winners.specs.Winning.{Under, Come}
 use Rattle.winners.proofs.least_into.Statement.{statement}

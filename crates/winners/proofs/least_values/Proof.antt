@@ -7,7 +7,7 @@ use native.Mathlib.Omega.{arith}
 use borrow.Author.Needs.{needs}
 use lib.ListN.{length}
 use Rattle.timing.specs.Structure.{pins}
-use Rattle.engine.specs.Area.{plan}
+use Rattle.area.specs.Area.{plan}
 use Rattle.engine.specs.Laid.{Laid, Ready}
 use Rattle.winners.specs.Winning.{Leasts}
 use Rattle.winners.specs.Laws.Least.{plan-kept, least-asks, leasts-none, leasts-more}

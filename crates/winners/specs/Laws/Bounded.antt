@@ -34,11 +34,11 @@ use Rattle.timing.specs.Laws.Counted.{walks-some}
 use Rattle.worst.specs.Candidates.{rankedList}
 use Rattle.worst.specs.Laws.Skipped.{Bound, value-bound, list-bound}
 use Rattle.worst.specs.Laws.Least.{value-above}
-use Rattle.clocks.specs.Area.{Kept, seedsAt, seedsEnd}
+use Rattle.area.specs.Area.{Kept, seedsAt, creditsAt}
 use Rattle.clocks.specs.Clocked.{ClockPin, Common, Seeded}
 use Rattle.clocks.specs.Kept.{clocked-kept}
 use Rattle.clocks.specs.Known.{test-clock}
-use Rattle.engine.specs.Area.{plan, countsAt, restAt}
+use Rattle.area.specs.Area.{plan, countsAt, clocksAt}
 use Rattle.engine.specs.Laid.{Small, Laid, Ready}
 use Rattle.engine.specs.Sorting.{weighing}
 use Rattle.winners.specs.Standing.{level, testSeed, Prepared}
@@ -105,7 +105,7 @@ module _ (t : Table) (h : tableFault t ≡ none) where
 
 -- ---- the least values against it
 
-module _ (t : Table) (mode y : ℕ) (w v : List ℕ) (p : Prepared t mode w) (l : 0 < testCount t) (a : Above t (testCount t) y) (k : Kept seedsAt seedsEnd w v)
+module _ (t : Table) (mode y : ℕ) (w v : List ℕ) (p : Prepared t mode w) (l : 0 < testCount t) (a : Above t (testCount t) y) (k : Kept seedsAt creditsAt w v)
     (s : Seeded (modeOf mode) t y (pinCount t) v) where
   shared-laid : Laid (structure t) (weighing t mode) (seedOf (modeOf mode) level (structure t) (times t) y) (plan v)
   shared-laid = seeds-laid t mode y (a .pin) (shared-small t (p .clocked .ready .checked) mode y a l) v (seeds-prepared t mode w v p k) s
@@ -128,7 +128,7 @@ module _ (t : Table) (mode y : ℕ) (w v : List ℕ) (p : Prepared t mode w) (l 
       let least = least-value S (weighing t mode) seed (ok .to-in) v u (rw e shared-laid) (rw (pins-is t) r) in
       record {
         prepared = record {
-          clocked = clocked-kept t countsAt restAt v u (omega arith) (r .kept) (q .clocked);
+          clocked = clocked-kept t countsAt clocksAt v u (omega arith) (r .kept) (q .clocked);
           by-arcs = rw e (q .by-arcs);
         };
         bounds = λ j i.
@@ -159,7 +159,7 @@ module _ (t : Table) (mode j : ℕ) (l : j < testCount t) (w u : List ℕ) (p : 
   still-sown =
       record {
         prepared = record {
-          clocked = clocked-kept t countsAt restAt w u (omega arith) (r .kept) (p .prepared .clocked);
+          clocked = clocked-kept t countsAt clocksAt w u (omega arith) (r .kept) (p .prepared .clocked);
           by-arcs = rw plan-stays (p .prepared .by-arcs);
         };
         laid = rw plan-stays (p .laid);

@@ -22,7 +22,7 @@ use Rattle.worst.specs.Candidates.{bestWalks, candidateAt, candidatesOf, pathOf
 use Rattle.worst.specs.Laws.Merged.{candidate-value, candidate-walk}
 use Rattle.clocks.specs.Clocked.{Tested}
 use Rattle.clocks.specs.Known.{test-data}
-use Rattle.engine.specs.Area.{plan}
+use Rattle.area.specs.Area.{plan}
 use Rattle.engine.specs.Entries.{entries, walkBy}
 use Rattle.engine.specs.Laid.{Laid}
 use Rattle.engine.specs.Steps.{Made}

@@ -17,9 +17,9 @@ use Rattle.timing.specs.Paths.{isStart, walks}
 use Rattle.timing.specs.Value.{valueOf}
 use Rattle.timing.specs.Laws.Routes.{into-into}
 use Rattle.worst.specs.Laws.Least.{value-least}
-use Rattle.clocks.specs.Area.{Kept}
+use Rattle.area.specs.Area.{Kept}
 use Rattle.clocks.specs.Kept.{kept-none, kept-set}
-use Rattle.engine.specs.Area.{plan, wordAt, firstAt, seedAt, fromIn, weightIn, seedsAt, countsAt, restAt}
+use Rattle.area.specs.Area.{plan, wordAt, firstAt, seedAt, fromIn, weightIn, seedsAt, countsAt, clocksAt}
 use Rattle.engine.specs.Laid.{Laid}
 use Rattle.engine.specs.Steps.{Counts}
 use Rattle.engine.specs.Laws.Made.{seed-at}
@@ -28,7 +28,7 @@ use Rattle.winners.specs.Winning.{leastAt, LeastInto, Leasts}
 use Rattle.winners.specs.Laws.Prepared.{plan-same}
 
 -- the plan stands before the least values
-pub plan-kept : (w v : List ℕ) → Kept countsAt restAt w v → plan v ≡ plan w
+pub plan-kept : (w v : List ℕ) → Kept countsAt clocksAt w v → plan v ≡ plan w
 plan-kept w v k = plan-same w v (k .long) (k .front)
 
 module _ (s : Structure) (weight seed : ℕ → ℕ) where
@@ -40,19 +40,19 @@ module _ (s : Structure) (weight seed : ℕ → ℕ) where
       let f : fromIn (wordAt m i) ≡ leaves s (getD (into s v) (i - firstAt m v) 0) = rw e at (r .from) in
       rw f (r .lower)
 
-  pub least-asks : (w : List ℕ) → Laid s weight seed (plan w) → restAt ≤ length w → (v : ℕ) → v < pins s → Counts w v
+  pub least-asks : (w : List ℕ) → Laid s weight seed (plan w) → clocksAt ≤ length w → (v : ℕ) → v < pins s → Counts w v
   least-asks w L l v q = record { long = l; pin = omega (arith, L .ordered .few-pins); fits = L .by-arcs .fits v q }
 
   pub leasts-none : (w : List ℕ) → Leasts w w 0
-  leasts-none w = record { kept = kept-none countsAt restAt w; under = λ v h. absurd (not-suc-le-zero h) }
+  leasts-none w = record { kept = kept-none countsAt clocksAt w; under = λ v h. absurd (not-suc-le-zero h) }
 
   -- one pin more
-  pub leasts-more : (w₀ w : List ℕ) (v x : ℕ) → Laid s weight seed (plan w) → restAt ≤ length w → v < pins s → Leasts w₀ w v → LeastInto w v x
+  pub leasts-more : (w₀ w : List ℕ) (v x : ℕ) → Laid s weight seed (plan w) → clocksAt ≤ length w → v < pins s → Leasts w₀ w v → LeastInto w v x
       → Leasts w₀ (set w (countsAt + v) x) (v + 1)
   leasts-more w₀ w v x L l q S I =
       let few = L .ordered .few-pins in
       let w′ = set w (countsAt + v) x in
-      let e : plan w′ ≡ plan w = plan-kept w w′ (kept-set countsAt restAt w w (countsAt + v) x (kept-none countsAt restAt w) (omega arith) (omega arith)) in
+      let e : plan w′ ≡ plan w = plan-kept w w′ (kept-set countsAt clocksAt w w (countsAt + v) x (kept-none countsAt clocksAt w) (omega arith) (omega arith)) in
       let other : (i : ℕ) → (i ≡ countsAt + v → ⊥) → getD w′ i 0 ≡ getD w i 0 = λ i n. getD-set-other w (countsAt + v) i x 0 (λ z. n (omega arith)) in
       let moved : (u r : ℕ) → u ≤ v → u < pins s → LeastInto w u r → LeastInto w′ u r =
       λ u r h k J.
@@ -67,7 +67,7 @@ module _ (s : Structure) (weight seed : ℕ → ℕ) where
             record { start = rw p (U .start); other = rw (p, q) (U .other) });
       } in
       record {
-        kept = kept-set countsAt restAt w₀ w (countsAt + v) x (S .kept) (omega arith) (omega arith);
+        kept = kept-set countsAt clocksAt w₀ w (countsAt + v) x (S .kept) (omega arith) (omega arith);
         under = λ u h. elim (ℕ-discrete u v) [
           | yes z ↦ rw (z, getD-set-same w (countsAt + v) x 0 (omega arith)) (moved v x (omega arith) q I)
           | no z ↦ rw (other (countsAt + u) (λ y. z (omega arith))) (moved u (leastAt w u) (omega arith) (omega arith) (S .under u (omega arith)))

@@ -17,12 +17,12 @@ use Rattle.timing.specs.Check.{tableFault}
 use Rattle.timing.specs.Laws.Accepted.{accepted, accepted-level}
 use Rattle.timing.specs.Laws.Columns.{pins-is, arcs-is, tests-is, clock-is}
 use Rattle.timing.specs.Laws.Valued.{value-most}
-use Rattle.clocks.specs.Area.{Kept, seedsAt, seedsEnd, clocksAt, freeAt}
+use Rattle.area.specs.Area.{Kept, seedsAt, creditsAt, clocksAt, turnsAt}
 use Rattle.clocks.specs.Clocked.{ClockPin, Clocked, Seeded, seedFor}
 use Rattle.clocks.specs.Kept.{kept-take, clocked-kept, clocked-drop, clocked-same}
 use Rattle.clocks.specs.Known.{test-clock}
 use Rattle.clocks.specs.Small.{seed-small}
-use Rattle.engine.specs.Area.{plan, planAt, planLength, countsAt}
+use Rattle.area.specs.Area.{plan, arcsAt, planLength, countsAt}
 use Rattle.engine.specs.Laid.{Ordered, Arcs, Small, Laid, Ready}
 use Rattle.engine.specs.Steps.{Tabled}
 use Rattle.engine.specs.Sorting.{weighing}
@@ -35,13 +35,13 @@ use Rattle.winners.specs.Winning.{Sown}
 pub plan-same : (w v : List ℕ) → length v ≡ length w → ((i : ℕ) → i < countsAt → getD v i 0 ≡ getD w i 0) → plan v ≡ plan w
 plan-same w v n same =
     ext-getD 0 (plan v) (plan w) same-length
-    (λ i l. let h : i < planLength = omega (arith, short v, l) in plan-at v i h ∙ same (planAt + i) (omega arith) ∙ sym (plan-at w i h))
+    (λ i l. let h : i < planLength = omega (arith, short v, l) in plan-at v i h ∙ same (arcsAt + i) (omega arith) ∙ sym (plan-at w i h))
   where
     same-length : length (plan v) ≡ length (plan w)
-    same-length = unfold plan in simp (length-take, length-drop) (ap (λ (n : ℕ). min planLength (n - planAt)) n)
+    same-length = unfold plan in simp (length-take, length-drop) (ap (λ (n : ℕ). min planLength (n - arcsAt)) n)
 
     short : (u : List ℕ) → length (plan u) ≤ planLength
-    short u = unfold plan in omega (arith, length-take planLength (drop planAt u))
+    short u = unfold plan in omega (arith, length-take planLength (drop arcsAt u))
 
 module _ (t : Table) (h : tableFault t ≡ none) where
   pub few-pins : pins (structure t) ≤ 256
@@ -57,19 +57,19 @@ module _ (t : Table) (h : tableFault t ≡ none) where
 
 module _ (t : Table) (mode : ℕ) where
   -- the clock side is written behind the arcs
-  pub clocks-prepared : (w v : List ℕ) → Arcs (structure t) (weighing t mode) (plan w) → Clocked t v → Kept clocksAt freeAt w v → Prepared t mode v
+  pub clocks-prepared : (w v : List ℕ) → Arcs (structure t) (weighing t mode) (plan w) → Clocked t v → Kept clocksAt turnsAt w v → Prepared t mode v
   clocks-prepared w v a c k =
       record {
         clocked = c;
-        by-arcs = arcs-kept (structure t) (weighing t mode) v w (few-pins t (c .ready .checked)) (kept-take clocksAt freeAt w v k seedsAt (omega arith)) a;
+        by-arcs = arcs-kept (structure t) (weighing t mode) v w (few-pins t (c .ready .checked)) (kept-take clocksAt turnsAt w v k seedsAt (omega arith)) a;
       }
 
   -- seeds are written between the arcs and the clock side
-  pub seeds-prepared : (w v : List ℕ) → Prepared t mode w → Kept seedsAt seedsEnd w v → Prepared t mode v
+  pub seeds-prepared : (w v : List ℕ) → Prepared t mode w → Kept seedsAt creditsAt w v → Prepared t mode v
   seeds-prepared w v p k =
       record {
-        clocked = clocked-kept t seedsAt seedsEnd w v (omega arith) k (p .clocked);
-        by-arcs = arcs-kept (structure t) (weighing t mode) v w (few-pins t (p .clocked .ready .checked)) (kept-take seedsAt seedsEnd w v k seedsAt (omega arith)) (p .by-arcs);
+        clocked = clocked-kept t seedsAt creditsAt w v (omega arith) k (p .clocked);
+        by-arcs = arcs-kept (structure t) (weighing t mode) v w (few-pins t (p .clocked .ready .checked)) (kept-take seedsAt creditsAt w v k seedsAt (omega arith)) (p .by-arcs);
       }
 
   -- the seeds of clock pin y make the area laid, where no value against y is large
@@ -101,7 +101,7 @@ module _ (t : Table) (mode : ℕ) where
         subst (λ (f : ℕ → ℕ). valueOf s (weightOf m f s x) (seedOf m f s x c) w < 1073741824) (accepted-level t h)
         (value-most s (a .sound) x (a .ranged) m c p (a .sound .clock-in j d) (a .sound .clock-kind j d) k w i)
 
-    pub sown : (w v : List ℕ) → Prepared t mode w → Kept seedsAt seedsEnd w v → Seeded (modeOf mode) t (testClock t j) (pinCount t) v → Sown t mode j v
+    pub sown : (w v : List ℕ) → Prepared t mode w → Kept seedsAt creditsAt w v → Seeded (modeOf mode) t (testClock t j) (pinCount t) v → Sown t mode j v
     sown w v p k s =
         let q = seeds-prepared w v p k in
         let h = q .clocked .ready .checked in
@@ -121,13 +121,13 @@ module _ (t : Table) (mode : ℕ) where
       }
 
   -- they are written before the arcs
-  pub rows-plan : (w v : List ℕ) → drop planAt v ≡ drop planAt w → plan v ≡ plan w
+  pub rows-plan : (w v : List ℕ) → drop arcsAt v ≡ drop arcsAt w → plan v ≡ plan w
   unfolding plan
   rows-plan w v e = ap (take planLength) e
 
-  pub rows-prepared : (w v : List ℕ) → Prepared t mode w → length v ≡ length w → drop planAt v ≡ drop planAt w → Prepared t mode v
+  pub rows-prepared : (w v : List ℕ) → Prepared t mode w → length v ≡ length w → drop arcsAt v ≡ drop arcsAt w → Prepared t mode v
   rows-prepared w v p n k =
-      let d : drop clocksAt v ≡ drop clocksAt w = sym (drop-drop 1793 planAt v) ∙ ap (drop 1793) k ∙ drop-drop 1793 planAt w in
+      let d : drop clocksAt v ≡ drop clocksAt w = sym (drop-drop 1793 arcsAt v) ∙ ap (drop 1793) k ∙ drop-drop 1793 arcsAt w in
       record { clocked = clocked-drop t w v n d (p .clocked); by-arcs = rw (rows-plan w v k) (p .by-arcs) }
 
   -- the rows of a test
@@ -137,10 +137,10 @@ module _ (t : Table) (mode : ℕ) where
       record { prepared = rows-prepared w v (p .prepared) n (k .rest); test = l; laid = rw (rows-plan w v (k .rest)) (p .laid); made = k .made }
 
   -- they stand as long as nothing is written before the free part
-  pub standing-kept : (j : ℕ) (w v : List ℕ) → length v ≡ length w → take freeAt v ≡ take freeAt w → Standing t mode j w → Standing t mode j v
+  pub standing-kept : (j : ℕ) (w v : List ℕ) → length v ≡ length w → take turnsAt v ≡ take turnsAt w → Standing t mode j w → Standing t mode j v
   standing-kept j w v n e s =
-      let same : (i : ℕ) → i < freeAt → getD v i 0 ≡ getD w i 0 =
-      λ i l. sym (getD-take freeAt v i 0 l) ∙ ap (λ (a : List ℕ). getD a i 0) e ∙ getD-take freeAt w i 0 l in
+      let same : (i : ℕ) → i < turnsAt → getD v i 0 ≡ getD w i 0 =
+      λ i l. sym (getD-take turnsAt v i 0 l) ∙ ap (λ (a : List ℕ). getD a i 0) e ∙ getD-take turnsAt w i 0 l in
       let p : plan v ≡ plan w = plan-same w v n (λ i l. same i (omega arith)) in
       let m = s .made in
       record {

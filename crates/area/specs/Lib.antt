@@ -1,0 +1,2 @@
+-- The work area.
+pub mod Area
