@@ -141,7 +141,14 @@ fn word(x: usize) -> u64
 }
 
 // The record of test j for a value and a serial: its slack is the value, raised and lowered by what the test alone decides.
-fn record_of(table: &[u32], mode: u32, work: &[u64], j: usize, value: u64, i: usize) -> Candidate
+pub fn record_of(
+    table: &[u32],
+    mode: u32,
+    work: &[u64],
+    j: usize,
+    value: u64,
+    i: usize,
+) -> Candidate
     requires { ⌜ Tested (now table) (now work) j × (value < 1073741824) ⌝ }
     ensures { λ r. ⌜ r ≡ recordOf (now (table .entry)) mode j value i ⌝ }
 {

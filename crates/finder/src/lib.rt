@@ -1,0 +1,340 @@
+// The first k paths of all tests, found walk by walk: the walks of a test that can come among them enter a ranked list.
+use timing::Candidate;
+use timing::Design;
+use walker::Cursor;
+ghost use mathlib.Core.Path.{_≡_};
+ghost use Prim.Native.Nat.{ℕ, _+_, _≤_, _<_};
+ghost use lib.Signed.{ltZ};
+ghost use Rattle.lists.specs.Choice.{pick};
+ghost use Rattle.lists.specs.Laws.Integer.{up, down, Within};
+ghost use Rattle.timing.specs.Limits.{mostK};
+ghost use Rattle.clocks.specs.Clocked.{Tested};
+ghost use Rattle.walker.specs.Slots.{Still};
+ghost use Rattle.finder.specs.Stored.{Shelf, Place, Moved, Entered};
+ghost use Rattle.timing.specs.Table.{testCount};
+ghost use Rattle.winners.specs.Standing.{Prepared};
+ghost use Rattle.finder.specs.Finding.{Lay, Searching, Nothing, Numbered};
+ghost use Rattle.finder.specs.Walking.{At, slackOf, Under, Nexts, Walks, Takes, Took, Added};
+ghost use Rattle.finder.specs.Held.{kept, Sized, Limit, Reach};
+
+// The ranked list of the best so far, how many of its places are counted, how many records were entered, as far as that is told, and the slot of each record's
+// walk; those behind the count are free.
+pub struct Best {
+    pub list: [Candidate; Design::K],
+    pub count: usize,
+    pub serial: usize,
+    pub slots: [u8; Design::K],
+}
+
+// The lesser of two signed numbers.
+fn nearer(a: i64, b: i64) -> i64
+    ensures { λ r. ⌜ r ≡ pick (ltZ a b) a b ⌝ }
+{
+    if a < b { a } else { b }
+}
+
+// The list after the walks of a test, and the least value that was passed over.
+pub struct Walked {
+    pub best: Best,
+    pub out: u64,
+}
+
+// What a number has above zero.
+fn above(x: i64) -> u64
+    ensures { λ r. ⌜ r ≡ up x ⌝ }
+{
+    if x < 0 { 0 } else { x as u64 }
+}
+
+// What a number has below zero.
+fn below(x: i64) -> u64
+    ensures { λ r. ⌜ r ≡ down x ⌝ }
+{
+    if x < 0 { (-1 - x) as u64 + 1 } else { 0 }
+}
+
+// What a slack must be below to enter: the hint, and the last slack of a full list.
+fn limit_of(best: Best, k: usize, hint: i64) -> i64
+    requires { ⌜ Sized k (best .list) (best .count) ⌝ }
+    ensures { λ r. ⌜ Limit k hint (best .list) (best .count) r ⌝ }
+{
+    if best.count < k {
+        return hint;
+    }
+    let list = best.list;
+    let last = list[k - 1];
+    let slack = last.slack;
+    nearer(slack, hint)
+}
+
+// What a value must be below for its slack to be below the limit.
+fn reach(limit: i64, raise: u64, lower: u64) -> u64
+    requires { ⌜ (raise < 1073741824) × (lower < 1073741824) ⌝ }
+    ensures { λ r. ⌜ Reach raise lower limit r ⌝ }
+{
+    let over = above(limit) + lower;
+    let under = below(limit) + raise;
+    if over < under {
+        return 0;
+    }
+    let r = over - under;
+    if r < area::NONE { r } else { area::NONE }
+}
+
+// The place of c among the first n: before the first record that is greater.
+fn place_in(list: [Candidate; Design::K], n: usize, c: Candidate) -> usize
+    requires { ⌜ n < mostK ⌝ }
+    ensures { λ r. ⌜ Place list n c r ⌝ }
+{
+    let mut at = 0;
+    while at < n {
+        let x = list[at];
+        if ranked::greater(x, c) {
+            return at;
+        }
+        at += 1;
+    }
+    at
+}
+
+// The slot at place n goes to place at; those between go one on.
+fn place_slot(slots: [u8; Design::K], at: usize, n: usize) -> [u8; Design::K]
+    requires { ⌜ (at ≤ n) × (n < mostK) ⌝ }
+    ensures { λ r. ⌜ Moved slots at n r ⌝ }
+{
+    let mut s = slots;
+    let slot = slots[n];
+    let mut i = n;
+    while at < i {
+        s[i] = slots[i - 1];
+        i -= 1;
+    }
+    s[at] = slot;
+    s
+}
+
+// How many records stay when one more enters.
+fn stay_of(count: usize, k: usize) -> usize
+    requires { ⌜ (count ≤ k) × (0 < k) ⌝ }
+    ensures { λ r. ⌜ r ≡ kept k count ⌝ }
+{
+    if count < k { count } else { k - 1 }
+}
+
+// One more, as far as that is told.
+fn next_serial(serial: usize) -> usize
+    ensures { λ r. ⌜ serial ≤ r ⌝ }
+{
+    if serial < 4294967295 {
+        serial + 1
+    } else {
+        serial
+    }
+}
+
+// c enters the list, behind the records that stay, and the slot behind them with it.
+fn entered(best: Best, k: usize, c: Candidate) -> Best
+    requires { ⌜ Sized k (best .list) (best .count) ⌝ }
+    ensures { λ r. ⌜ Entered k c (best .list) (best .count) (best .serial) (best .slots) (r .list) (r .count) (r .serial) (r .slots) ⌝ }
+{
+    let stay = stay_of(best.count, k);
+    let list = best.list;
+    let at = place_in(list, stay, c);
+    let old = best.slots;
+    let slots = place_slot(old, at, stay);
+    let r = ranked::enter_in(list, stay, c);
+    let new = r.list;
+    Best {
+        list: new,
+        count: stay + 1,
+        serial: next_serial(best.serial),
+        slots: slots,
+    }
+}
+
+// What the value of a walk of test j must be below for it to enter.
+fn under_of(
+    table: &[u32],
+    mode: u32,
+    work: &[u64],
+    j: usize,
+    k: usize,
+    hint: i64,
+    best: Best,
+) -> u64
+    requires { ⌜ Tested (now table) (now work) j × Sized k (best .list) (best .count) ⌝ }
+    ensures { λ r. ⌜ Under (now (table .entry)) mode j k hint (best .list) (best .count) r ⌝ }
+{
+    let raise = clocks::raise_of(table, mode, work, j);
+    let lower = clocks::lower_of(table, mode, work, j);
+    reach(limit_of(best, k, hint), raise, lower)
+}
+
+// To the next walk of test j that enters, or to the end.
+fn next(
+    table: &[u32],
+    mode: u32,
+    work: &mut [u64],
+    j: usize,
+    k: usize,
+    hint: i64,
+    best: Best,
+    c: Cursor,
+) -> Cursor
+    requires { ⌜ Tested (now table) (now work) j × At (now table) mode j (now work) c × Sized k (best .list) (best .count) ⌝ }
+    ensures { λ r. ⌜ Nexts (now (table .entry)) mode j k hint (best .list) (best .count) (now (work .entry)) c (now (work .exit)) r ⌝ }
+{
+    let under = under_of(table, mode, work, j, k, hint, best);
+    walker::next_walk(work, c, under)
+}
+
+// The walk that was found goes to the free slot, and its record enters the list.
+fn take_walk(
+    table: &[u32],
+    mode: u32,
+    work: &mut [u64],
+    j: usize,
+    k: usize,
+    best: Best,
+    c: Cursor,
+) -> Best
+    requires { ⌜ Takes (now table) mode j k (now work) (best .list) (best .count) (best .slots) c ⌝ }
+    ensures { λ r. ⌜ Took (now (table .entry)) mode j k (now (work .entry)) (best .list) (best .count) (best .serial) (best .slots) c (now (work .exit)) (r .list) (r .count) (r .serial) (r .slots) ⌝ }
+{
+    let stay = stay_of(best.count, k);
+    let slots = best.slots;
+    let free = slots[stay] as usize;
+    let record = winners::record_of(table, mode, work, j, c.value, best.serial);
+    walker::keep_walk(work, c, free);
+    entered(best, k, record)
+}
+
+// The walks of test j, whose seeds and least values are laid, enter the list where their slacks are below the hint.
+pub fn walk_test(
+    table: &[u32],
+    mode: u32,
+    work: &mut [u64],
+    j: usize,
+    k: usize,
+    hint: i64,
+    best: Best,
+) -> Walked
+    requires { ⌜ Walks (now table) mode j (now work) × Sized k (best .list) (best .count) × Shelf (best .slots) ⌝ }
+    ensures { λ r. ⌜ Added (now (table .entry)) mode j k hint (now (work .entry)) (best .list) (best .count) (best .serial) (best .slots) (now (work .exit)) (r .best .list) (r .best .count) (r .best .serial) (r .best .slots) (r .out) × Still (now (work .entry)) (now (work .exit)) ⌝ }
+{
+    let data = tables::of_test(table, 1, j);
+    let mut b = best;
+    let mut c = walker::begin(work, data);
+    c = next(table, mode, work, j, k, hint, b, c);
+    while c.value < area::NONE {
+        b = take_walk(table, mode, work, j, k, b, c);
+        c = next(table, mode, work, j, k, hint, b, c);
+    }
+    Walked {
+        best: b,
+        out: c.out,
+    }
+}
+
+// ---- all tests
+
+// The slots, as they are numbered.
+fn numbered() -> [u8; Design::K]
+    ensures { λ r. ⌜ Numbered 16 r ⌝ }
+{
+    let mut slots = [0u8; Design::K];
+    let mut i = 0;
+    while i < Design::K {
+        slots[i] = i as u8;
+        i += 1;
+    }
+    slots
+}
+
+// Nothing is found yet.
+fn nothing() -> Best
+    ensures { λ r. ⌜ Nothing (r .list) (r .count) (r .slots) ⌝ }
+{
+    let c = Candidate {
+        slack: 0,
+        test: 0,
+        serial: 0,
+    };
+    let slots = numbered();
+    Best {
+        list: [c; Design::K],
+        count: 0,
+        serial: 0,
+        slots: slots,
+    }
+}
+
+// The seeds and the least values of test j.
+fn lay(table: &[u32], mode: u32, work: &mut [u64], j: usize)
+    requires { ⌜ Prepared (now table) mode (now work) × (j < testCount (now table)) ⌝ }
+    ensures { λ _. ⌜ Lay (now (table .entry)) mode j (now (work .entry)) (now (work .exit)) ⌝ }
+{
+    clocks::seeds(table, mode, work, tables::of_test(table, 0, j));
+    walker::least_values(work, tables::pin_count(table));
+}
+
+// What a value that was passed over is as a slack; above every slack if it is above every value.
+fn slack_at(table: &[u32], mode: u32, work: &[u64], j: usize, value: u64) -> i64
+    requires { ⌜ Tested (now table) (now work) j ⌝ }
+    ensures { λ r. ⌜ ((v : ℕ) → v < 1073741824 → value ≤ v → Within 0 r (slackOf (now (table .entry)) mode j v)) ⌝ }
+{
+    if value < 1073741824 {
+        let r = winners::record_of(table, mode, work, j, value, 0);
+        return r.slack;
+    }
+    1099511627776
+}
+
+// The list, and the least slack that was passed over.
+pub struct Found {
+    pub best: Best,
+    pub out: i64,
+}
+
+// One test more.
+fn find_test(
+    table: &[u32],
+    mode: u32,
+    work: &mut [u64],
+    j: usize,
+    k: usize,
+    hint: i64,
+    found: Found,
+) -> Found
+    requires { ⌜ Searching (now table) mode k hint j (now work) (found .best .list) (found .best .count) (found .best .serial) (found .best .slots) (found .out) × (j < testCount (now table)) ⌝ }
+    ensures { λ r. ⌜ Searching (now (table .entry)) mode k hint (j + 1) (now (work .exit)) (r .best .list) (r .best .count) (r .best .serial) (r .best .slots) (r .out) ⌝ }
+{
+    lay(table, mode, work, j);
+    let best = found.best;
+    let walked = walk_test(table, mode, work, j, k, hint, best);
+    let out = nearer(found.out, slack_at(table, mode, work, j, walked.out));
+    let new = walked.best;
+    Found {
+        best: new,
+        out: out,
+    }
+}
+
+// The first k of the paths below the hint, of all tests.
+pub fn find(table: &[u32], mode: u32, work: &mut [u64], k: usize, hint: i64) -> Found
+    requires { ⌜ Prepared (now table) mode (now work) × (0 < k) × (k ≤ mostK) ⌝ }
+    ensures { λ r. ⌜ Searching (now (table .entry)) mode k hint (testCount (now (table .entry))) (now (work .exit)) (r .best .list) (r .best .count) (r .best .serial) (r .best .slots) (r .out) ⌝ }
+{
+    let n = tables::test_count(table);
+    let best = nothing();
+    let mut found = Found {
+        best: best,
+        out: 1099511627776,
+    };
+    let mut j = 0;
+    while j < n {
+        found = find_test(table, mode, work, j, k, hint, found);
+        j += 1;
+    }
+    found
+}
