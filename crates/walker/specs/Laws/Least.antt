@@ -23,7 +23,7 @@ use Rattle.walker.specs.Laws.Rest.{read}
 module _ (s : Structure) (weight seed : ℕ → ℕ) where
   module _ (ends : (a : ℕ) → a < arcs s → leaves s a < pins s) (f : ℕ → ℕ) (L : Lower s weight seed f) where
     -- at most the value of each walk from the pin
-    lower-walk : (v : ℕ) (w : List ℕ) → isStart s v ≡ false → Walk s v w → f v ≤ valueOf s weight seed w
+    pub lower-walk : (v : ℕ) (w : List ℕ) → isStart s v ≡ false → Walk s v w → f v ≤ valueOf s weight seed w
     lower-walk v [] e k = absurd k
     lower-walk v (a ∷ []) e k =
         let z = L .start (leaves s a) (ends a (k .0)) (k .2) in

@@ -1,162 +1,111 @@
--- The candidates of the test that stands: how many there are, and the slack of each from its row.
+-- A record enters the list, and its path the list of paths.
 -- Assumes nothing.
-use mathlib.Core.Path.{_≡_, sym, ap, subst, _∙_}
-use mathlib.Core.List.{List, []}
-use Prim.Native.Nat.{ℕ, suc, _+_, _≤_, _<_}
+use mathlib.Core.Path.{_≡_, refl, sym, ap, ap₂, _∙_}
+use mathlib.Core.Bool.{Bool}
+use mathlib.Core.List.{List, [], _∷_}
+use Prim.Native.Nat.{ℕ, zero, suc, _+_, _-_, _≤_, _<_}
 use native.Mathlib.Omega.{arith}
-use lib.ListN.{length, getD, take, length-take}
-use lib.Seq.{getD-take}
-use lib.IntN.{ℤ, subℕ}
-use Rattle.lists.specs.Parts.{below}
-use Rattle.lists.specs.Laws.Member.{In, length-each, into-each, into-below}
-use Rattle.lists.specs.Laws.Column.{column-length}
-use Rattle.timing.specs.Table.{Table, testCount, testData}
-use Rattle.timing.specs.Structure.{pins, tests, clockPin, dataPin, structure, times}
-use Rattle.timing.specs.Paths.{walks}
-use Rattle.timing.specs.Value.{value, rankedWalks, weightOf, seedOf, raise, lower}
-use Rattle.timing.specs.Rows.{modeOf}
-use Rattle.timing.specs.Laws.Accepted.{accepted, accepted-level}
-use Rattle.timing.specs.Laws.Columns.{pins-is, tests-is, data-is}
-use Rattle.timing.specs.Laws.Valued.{raise-most, lower-most}
-use Rattle.worst.specs.Candidates.{bestWalks, candidateAt, candidatesOf, pathOf}
-use Rattle.worst.specs.Laws.Merged.{candidate-value, candidate-walk}
-use Rattle.clocks.specs.Clocked.{Tested}
-use Rattle.clocks.specs.Known.{test-data}
-use Rattle.area.specs.Area.{plan}
-use Rattle.engine.specs.Entries.{entries, walkBy}
-use Rattle.engine.specs.Laid.{Laid}
-use Rattle.engine.specs.Steps.{Made}
-use Rattle.engine.specs.Asked.{At, AtRank, Valued}
-use Rattle.engine.specs.Sorting.{weighing}
-use Rattle.engine.specs.Laws.Best.{is-other}
-use Rattle.engine.specs.Laws.Traced.{entries-walks}
-use Rattle.winners.specs.Standing.{level, testSeed, Prepared, Standing}
-use Rattle.winners.specs.Winning.{HasRank, recordOf, candidateOf}
-use Rattle.winners.specs.Laws.Totals.{data-other}
+use native.Mathlib.Decide.{decLt}
+use borrow.Author.Tests.{le-ltb}
+use lib.Dec.{ltb}
+use lib.ListN.{length, take, length-take}
+use lib.Seq.{take-take, take-all}
+use lib.IntN.{ℤ}
+use lib.Signed.{ltZ}
+use Rattle.lists.specs.Choice.{pick}
+use Rattle.lists.specs.Parts.{last}
+use Rattle.lists.specs.Rank.{enter, by}
+use Rattle.lists.specs.Laws.Cases.{by-test}
+use Rattle.lists.specs.Laws.Integer.{Within, Less}
+use Rattle.lists.specs.Laws.Ranking.{sorted-enter, enter-cases, enter-less, enter-more, length-enter, Both, both-length, both-take}
+use Rattle.lists.specs.Laws.Pieces.{pairs-take}
+use Rattle.timing.specs.Paths.{Path}
+use Rattle.timing.specs.Ranked.{greater, newCount, listAfter}
+use Rattle.timing.specs.declared.Candidate.{Candidate}
+use Rattle.ranked.specs.Laws.{entered-front, after-length}
+use Rattle.winners.specs.Held.{Told, Holds, kept, Sized}
 
--- ---- the row of a test's data pin, whatever seeds it is made from
+-- ---- any lists
 
-module _ (t : Table) (mode j : ℕ) (l : j < testCount t) (seed : ℕ → ℕ) (w : List ℕ) (P : Prepared t mode w)
-    (L : Laid (structure t) (weighing t mode) seed (plan w)) (M : Made w (testData t j + 1)) where
-  pub data-inside : testData t j < pins (structure t)
-  data-inside = rw (pins-is t) (test-data t (P .clocked .ready .checked) j l)
+module _ {A B : Type 0} (R : A → B → Type 0) (gt : A → A → Bool) (lt : B → B → Bool) where
+  -- two items enter two lists alike
+  both-enter : (a : A) (b : B) (l : List A) (m : List B) → R a b → ((x : A) (y : B) → R x y → gt x a ≡ lt y b) → Both R l m
+      → Both R (enter gt a l) (enter lt b m)
+  unfolding enter pick
+  both-enter a b [] [] r f h = (r, tt)
+  both-enter a b [] (y ∷ m) r f h = absurd h
+  both-enter a b (x ∷ l) [] r f h = absurd h
+  both-enter a b (x ∷ l) (y ∷ m) r f h =
+      by-test (gt x a)
+      (λ e. rw (e, ← (f x y (h .0)), e) (r, h))
+      (λ e. rw (e, ← (f x y (h .0)), e) (h .0, both-enter a b l m r f (h .1)))
 
-  pub row-at : At w (testData t j)
-  row-at =
-      let h = P .clocked .ready .checked in
+module _ {A : Type 0} (key : A → ℤ) where
+  -- of a full list whose last is above x the last falls out
+  full-enter : (d x : A) (n : ℕ) (l : List A) → length l ≡ suc n → Less (key x) (key (last d l)) → take (suc n) (enter (by key) x l) ≡ enter (by key) x (take n l)
+  unfolding last enter
+  full-enter d x n [] e h = absurd (omega arith)
+  full-enter d x zero (y ∷ []) e h = rw (enter-less key x y [] h) refl
+  full-enter d x (suc n) (y ∷ []) e h = absurd (omega arith)
+  full-enter d x zero (y ∷ z ∷ l) e h = absurd (omega arith)
+  full-enter d x (suc n) (y ∷ z ∷ l) e h =
+      enter-cases key (λ m. take (suc (suc n)) m ≡ enter (by key) x (y ∷ take n (z ∷ l))) x y (z ∷ l)
+      (λ k. sym (enter-less key x y (take n (z ∷ l)) k))
+      (λ k. ap (λ (m : List A). y ∷ m) (full-enter y x n (z ∷ l) (omega arith) h) ∙ sym (enter-more key x y (take n (z ∷ l)) k))
+
+-- ---- records
+
+-- where no record so far is of a later test or serial the slack alone decides
+pub slack-decides : (x c : Candidate) → x .test ≤ c .test → x .serial ≤ c .serial → greater x c ≡ ltZ (c .slack) (x .slack)
+unfolding pick
+slack-decides x c h k =
+    by-test (ltZ (c .slack) (x .slack)) (λ e. rw e refl)
+    (λ e. by-test (ltZ (x .slack) (c .slack)) (λ f. rw (e, f) refl)
+    (λ f. by-test (ltb (x .test) (c .test))
+    (λ g. rw (e, f, le-ltb (c .test) (x .test) h, g) refl)
+    (λ g. rw (e, f, le-ltb (c .test) (x .test) h, g, le-ltb (c .serial) (x .serial) k) refl)))
+
+module _ (key : Path → ℤ) (k test serial : ℕ) (list : List Candidate) (count : ℕ) (l : List Path) where
+  -- the first k, by those that stay
+  pub tops : (d p : Path) → Sized k list count → Holds key k test serial list count l → (count ≡ k → Less (key p) (key (last d l)))
+      → take k (enter (by key) p l) ≡ enter (by key) p (take (kept k count) l)
+  tops d p S H low = elim (decLt count k) [
+    | yes h ↦
+        let z : kept k count ≡ count = omega arith in
+        take-all k (enter (by key) p l) (omega (arith, length-enter (by key) p l, H .counted))
+        ∙ ap (enter (by key) p) (sym (rw z (take-all count l (omega (arith, H .counted)))))
+    | no h ↦
+        let e : count ≡ k = omega (arith, S .few) in
+        let z : kept k count ≡ k - 1 = omega arith in
+        let y : k ≡ suc (k - 1) = omega (arith, S .some) in
+        rw z (ap (λ (n : ℕ). take n (enter (by key) p l)) y ∙ full-enter key d p (k - 1) l (omega (arith, H .counted)) (low e))
+  ]
+
+  -- a record enters behind the records that stay
+  pub holds-enter : (d : Path) (c : Candidate) (p : Path) → Sized k list count → Holds key k test serial list count l → Told key test serial c p
+      → c .test ≡ test → c .serial ≡ serial → (count ≡ k → Less (key p) (key (last d l)))
+      → Holds key k test serial (listAfter list (kept k count) c) (kept k count + 1) (take k (enter (by key) p l))
+  holds-enter d c p S H T ct cs low =
+      let q = kept k count in
+      let ql : q < 16 = omega (arith, S .few, S .some, S .most) in
+      let D = take q list in
+      let M = take q l in
+      let len = S .places in
+      let D-is : D ≡ take q (take count list) = sym (take-take q count list (omega arith)) in
+      let rel : Both (Told key test serial) D M = rw D-is (both-take (Told key test serial) q (take count list) l (H .both)) in
+      let new : Both (Told key test serial) (enter greater c D) (enter (by key) p M) =
+      both-enter (Told key test serial) greater (by key) c p D M T
+      (λ x y r. slack-decides x c (omega (arith, r .tests)) (omega (arith, r .serials)) ∙ ap₂ ltZ (T .slack) (r .slack)) rel in
+      let Dn : length D ≡ q = length-take q list ∙ omega arith in
+      let En : length (enter greater c D) ≡ suc q = length-enter greater c D ∙ ap suc Dn in
+      let front : take (q + 1) (listAfter list q c) ≡ enter greater c D =
+      let z : newCount q (length list) ≡ q + 1 = omega arith in
+      (rw z at (entered-front list q c (omega arith))) ∙ take-all (length list) (enter greater c D) (omega arith) in
+      let top : take k (enter (by key) p l) ≡ enter (by key) p M = tops d p S H low in
       record {
-        size = testData t j + 1;
-        made = M;
-        pin = omega arith;
-        other = rw (L .by-seeds .other (testData t j) data-inside (data-other t h j l)) (omega arith);
+        places = after-length list q c ∙ len;
+        counted = omega (arith, ap length top, both-length (Told key test serial) (enter greater c D) (enter (by key) p M) new);
+        few = omega (arith, length-take k (enter (by key) p l));
+        both = rw (front, top) new;
+        sorted = pairs-take (λ x y. Within 0 (key x) (key y)) k (enter (by key) p l) (sorted-enter key p l (H .sorted));
       }
-
-  -- it has as many entries as there are walks, or 16
-  pub row-count : length (entries (plan w) (testData t j)) ≡ length (take 16 (rankedWalks (structure t) (weighing t mode) seed (dataPin (structure t) j)))
-  row-count =
-      let s = structure t in
-      let v = testData t j in
-      let o = is-other s (weighing t mode) seed (plan w) L v data-inside (data-other t (P .clocked .ready .checked) j l) in
-      sym (length-each (walkBy (plan w) (suc v)) (entries (plan w) v))
-      ∙ ap length (entries-walks s (weighing t mode) seed (plan w) L v data-inside o)
-      ∙ ap (λ (v : ℕ). length (take 16 (rankedWalks s (weighing t mode) seed v))) (sym (data-is t j l))
-
-module _ (t : Table) (mode j : ℕ) (w : List ℕ) (S : Standing t mode j w) where
-  inside : testData t j < pins (structure t)
-  inside = data-inside t mode j (S .test) (testSeed t mode j) w (S .prepared) (S .laid) (S .made)
-
-  -- the data pin of the test has a row
-  pub data-at : At w (testData t j)
-  data-at = row-at t mode j (S .test) (testSeed t mode j) w (S .prepared) (S .laid) (S .made)
-
-  -- it has as many entries as the test has candidates
-  pub found : length (entries (plan w) (testData t j)) ≡ length (candidatesOf (modeOf mode) level (structure t) (times t) j)
-  unfolding candidatesOf bestWalks weighing
-  found =
-      let s = structure t in
-      let x = times t in
-      let m = modeOf mode in
-      row-count t mode j (S .test) (testSeed t mode j) w (S .prepared) (S .laid) (S .made)
-      ∙ sym (column-length (candidateAt m level s x j) (length (bestWalks m level s x j)))
-
--- ---- one candidate
-
-module _ (t : Table) (mode j i : ℕ) (w : List ℕ) (H : HasRank t mode j i w) where
-  pub at-rank : AtRank w (testData t j) i
-  at-rank = record { at = data-at t mode j w (H .standing); real = H .real }
-
-  real : i < length (candidatesOf (modeOf mode) level (structure t) (times t) j)
-  real = rw (found t mode j w (H .standing)) at (H .real)
-
-  ranked : i < length (bestWalks (modeOf mode) level (structure t) (times t) j)
-  unfolding candidatesOf
-  ranked = rw (column-length (candidateAt (modeOf mode) level (structure t) (times t) j) (length (bestWalks (modeOf mode) level (structure t) (times t) j))) at real
-
-  test-place : j < tests (structure t)
-  test-place = rw (tests-is t) (H .standing .test)
-
-  module _ (y : ℕ) (is : Valued w (testData t j) i y) where
-    -- the value in the row is that of the walk with this serial
-    best : y ≡ value (modeOf mode) level (structure t) (times t) (clockPin (structure t) j) (getD (bestWalks (modeOf mode) level (structure t) (times t) j) i [])
-    unfolding bestWalks weighing
-    best =
-        let s = structure t in
-        let x = times t in
-        let m = modeOf mode in
-        let S = H .standing in
-        let c = clockPin s j in
-        let ws = rankedWalks s (weightOf m level s x) (seedOf m level s x c) (dataPin s j) in
-        let k : i < 16 = omega (arith, length-take 16 ws, ranked) in
-        is s (weighing t mode) (testSeed t mode j) (S .laid) (inside t mode j w S)
-        ∙ ap (λ (v : ℕ). value m level s x c (getD (rankedWalks s (weightOf m level s x) (seedOf m level s x c) v) i [])) (sym (data-is t j (S .test)))
-        ∙ ap (value m level s x c) (sym (getD-take 16 ws i [] k))
-
-    walk-in : In (getD (bestWalks (modeOf mode) level (structure t) (times t) j) i []) (walks (structure t) (dataPin (structure t) j))
-    unfolding candidatesOf candidateAt pathOf
-    walk-in =
-        let s = structure t in
-        let x = times t in
-        let m = modeOf mode in
-        let n = length (bestWalks m level s x j) in
-        candidate-walk m level s x j (candidateAt m level s x j i) (into-each (candidateAt m level s x j) i (below n) (into-below i n ranked))
-
-    -- it is small
-    pub value-small : y < 1073741824
-    unfolding weighing
-    value-small =
-        let S = H .standing in
-        let s = structure t in
-        let d : dataPin s j < pins s = rw (data-is t j (S .test)) (inside t mode j w S) in
-        rw best (S .laid .small (dataPin s j) (getD (bestWalks (modeOf mode) level s (times t) j) i []) d walk-in)
-
-    -- and gives the slack
-    pub candidate-is : recordOf t mode j y i ≡ candidateOf t mode j i
-    unfolding candidateAt
-    candidate-is =
-        let s = structure t in
-        let x = times t in
-        let m = modeOf mode in
-        let a = accepted t (H .standing .prepared .clocked .ready .checked) in
-        let e : (level : ℕ → ℕ) → a .sound .level ≡ level → i < length (bestWalks m level s x j)
-        → candidateAt m level s x j i .slack
-        ≡ subℕ (value m level s x (clockPin s j) (getD (bestWalks m level s x j) i []) + raise m s x j) (lower m level s x j) =
-        λ l q k. rw (← q) (candidate-value s (a .sound) x (a .ranged) m j i test-place (rw (← q) at k)) in
-        ap (λ (z : ℤ). record { slack = z; test = j; serial = i }) (rw best (sym (e level (accepted-level t (H .standing .prepared .clocked .ready .checked)) ranked)))
-
--- ---- what a test adds and takes
-
-module _ (t : Table) (mode j : ℕ) (w : List ℕ) (T : Tested t w j) where
-  place : j < tests (structure t)
-  place = rw (tests-is t) (T .inside)
-
-  pub raise-small : raise (modeOf mode) (structure t) (times t) j ≤ 257000000
-  raise-small =
-      let a = accepted t (T .clocked .ready .checked) in
-      raise-most (structure t) (a .sound) (times t) (a .ranged) (modeOf mode) j place
-
-  pub lower-small : lower (modeOf mode) level (structure t) (times t) j ≤ 512000000
-  lower-small =
-      let h = T .clocked .ready .checked in
-      let a = accepted t h in
-      subst (λ (f : ℕ → ℕ). lower (modeOf mode) f (structure t) (times t) j ≤ 512000000) (accepted-level t h)
-      (lower-most (structure t) (a .sound) (times t) (a .ranged) (modeOf mode) j place)
