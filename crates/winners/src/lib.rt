@@ -4,7 +4,7 @@ use timing::Design;
 use walker::Cursor;
 ghost use mathlib.Core.Path.{_≡_};
 ghost use Prim.Native.Nat.{ℕ, _+_, _≤_, _<_};
-ghost use mathlib.Core.Bool.{false};
+ghost use mathlib.Core.Bool.{true, false};
 ghost use lib.IntN.{pos};
 ghost use lib.Signed.{ltZ};
 ghost use Rattle.lists.specs.Choice.{pick};
@@ -402,7 +402,7 @@ fn find(
 
 // Whether the list may still lack a path: there are rounds left, it is not full, and what was passed over can be a slack.
 fn unfinished(rounds: usize, count: usize, k: usize, out: i64) -> bool
-    ensures { λ r. ⌜ (r ≡ false → Finished rounds count k out) ⌝ }
+    ensures { λ r. ⌜ (r ≡ false → Finished rounds count k out) × (r ≡ true → 0 < rounds) ⌝ }
 {
     (0 < rounds) & (count < k) & less(out, SLACKS)
 }
@@ -420,20 +420,35 @@ fn raised(out: i64, rounds: usize) -> i64
     ABOVE
 }
 
-// The first k paths of all tests: the list tells them, and their walks stand in their slots. Any hint leads to them; a round that finds fewer than k, having
-// passed over some, is done again with a higher one.
+// The first k paths of all tests. A round that finds fewer than k, having passed over some, is done again with a higher hint: the least value that a round passes
+// over is the slack of some path, so each round finds one more at the least, and k rounds are enough.
+fn by_rounds(
+    table: &[u32],
+    mode: u32,
+    work: &mut [u64],
+    k: usize,
+    hint: i64,
+    bounds: &[u32; Design::TESTS],
+) -> Best
+    requires { ⌜ Prepared (now table) mode (now work) × (0 < k) × (k ≤ mostK) × AllBounds (now table) mode (now bounds) ⌝ }
+    ensures { λ r. ⌜ Won (now (table .entry)) mode k (now (work .exit)) (r .list) (r .count) (r .slots) ⌝ }
+{
+    let mut found = find(table, mode, work, k, hint, bounds);
+    let mut rounds = k;
+    while unfinished(rounds, found.best.count, k, found.out) {
+        let higher = raised(found.out, rounds);
+        found = find(table, mode, work, k, higher, bounds);
+        rounds -= 1;
+    }
+    let best = found.best;
+    best
+}
+
+// The first k paths of all tests: the list tells them, and their walks stand in their slots. Any hint leads to them.
 pub fn first(table: &[u32], mode: u32, work: &mut [u64], k: usize) -> Best
     requires { ⌜ Prepared (now table) mode (now work) × (0 < k) × (k ≤ mostK) ⌝ }
     ensures { λ r. ⌜ Won (now (table .entry)) mode k (now (work .exit)) (r .list) (r .count) (r .slots) ⌝ }
 {
     let bounds = laying::bounds_of(table, mode, work);
-    let mut found = find(table, mode, work, k, ABOVE, &bounds);
-    let mut rounds = k;
-    while unfinished(rounds, found.best.count, k, found.out) {
-        let hint = raised(found.out, rounds);
-        found = find(table, mode, work, k, hint, &bounds);
-        rounds -= 1;
-    }
-    let best = found.best;
-    best
+    by_rounds(table, mode, work, k, ABOVE, &bounds)
 }

@@ -1,66 +1,83 @@
+-- `winners::find` meets its contract.
+-- Assumes nothing.
 use borrow.Author.Needs.{needs}
+use mathlib.Core.Path.{_≡_, refl, _∙_}
+use Prim.Native.Nat.{_-_, _≤_, _<_}
+use native.Mathlib.Omega.{arith}
+use lib.ListN.{length}
+use mir.Syntax.{w64}
+use mir.Val.{toZ}
+use mir.ValLaws.{toZ-ofZ}
+use Rattle.timing.specs.Table.{testCount}
+use Rattle.timing.specs.Laws.Accepted.{accepted}
+use Rattle.winners.specs.Finding.{Searching}
+use Rattle.winners.specs.Laws.Finding.{searching-none}
 use Rattle.winners.proofs.find.Statement.{statement}
 use Rattle.winners.proofs.find.Tie as tie
-use Rattle.winners.proofs.find.Reads as reads
-use Rattle.winners.proofs.find.Lts as lts
-use Rattle.tables.proofs.test_count.Reads as test-count-reads
-use Rattle.winners.proofs.find_test.Reads as find-test-reads
-use Rattle.winners.proofs.nothing.Reads as nothing-reads
-use Rattle.winners.proofs.wide.Reads as wide-reads
 
 abbrev Inv-loop : tie.InvT-loop
-Inv-loop table mode work₀ k hint bounds n found₀ j₀ work found j = ?
+Inv-loop table mode work₀ k hint bounds n found₀ j₀ work found j =
+    Searching table mode k (toZ w64 hint) j work (found .best .list) (found .best .count) (found .best .serial) (found .best .slots) (found .out)
+    × (j ≤ testCount table) × (n ≡ testCount table) × (length work ≡ length work₀)
 
 abbrev μ-loop : tie.MeasureT-loop
-μ-loop table mode work₀ k hint bounds n found₀ j₀ work found j = ?
+μ-loop table mode work₀ k hint bounds n found₀ j₀ work found j = n - j
 
--- src/lib.rt:387:9
 test-count-requires : tie.Need-test-count-requires Inv-loop μ-loop
 test-count-requires c κs = search needs
 
--- src/lib.rt:388:9
 nothing-requires : tie.Need-nothing-requires Inv-loop μ-loop
 nothing-requires c κs = search needs
 
--- src/lib.rt:394:5
 loop-holds : tie.Need-loop-holds Inv-loop μ-loop
-loop-holds c = search needs
+loop-holds c =
+    let b = c .before .before .before .before in
+    (searching-none _ _ _ _ _ _ _ _ _ _ (b .pre .1) (b .pre .2) (b .pre .0) (c .nothing .ensures), omega arith, c .before .test-count .ensures, refl)
 
--- src/lib.rt:395:63
+find-test-requires : tie.Need-find-test-requires Inv-loop μ-loop
+find-test-requires c κs =
+    let l = c .before .before .before in
+    let b = l .before in
+    let t : b .loop .j < testCount (b .before .before .before .before .before .args .table .now) = omega (arith, l .loop-test .taken, b .loop .inv .2) in
+    rw (c .wide .ensures) (record { searching = b .loop .inv .0; test = t; bounds = b .before .before .before .before .before .pre .3 (b .loop .j) t })
+
+-- there is a place for it
+low : (c : tie.After-find-test-arg Inv-loop μ-loop) → c .before .before .loop .j < 64
+low c =
+    let b = c .before .before in
+    omega (arith, c .before .loop-test .taken, b .loop .inv .2, accepted _ (b .loop .inv .0 .finding .prepared .clocked .ready .checked) .header .few-tests)
+
 mul-wide : tie.Need-mul-wide Inv-loop μ-loop
-mul-wide c = search needs
+mul-wide c = record { fits = omega (arith, low c) }
 
--- src/lib.rt:395:63
 element-copy-out-wide : tie.Need-element-copy-out-wide Inv-loop μ-loop
-element-copy-out-wide c = search needs
+element-copy-out-wide c = low c
 
--- src/lib.rt:395:58
 wide-requires : tie.Need-wide-requires Inv-loop μ-loop
 wide-requires c κs = search needs
 
--- src/lib.rt:395:9
-find-test-requires : tie.Need-find-test-requires Inv-loop μ-loop
-find-test-requires c κs = search needs
-
--- src/lib.rt:396:9
 add-j : tie.Need-add-j Inv-loop μ-loop
 add-j c = search needs
 
--- src/lib.rt:394:5
 loop-less : tie.Need-loop-less Inv-loop μ-loop
 loop-less c = search needs
 
--- src/lib.rt:394:5
 loop-again : tie.Need-loop-again Inv-loop μ-loop
-loop-again c = search needs
+loop-again c =
+    let l = c .before .before .before .before .before .before in
+    let b = l .before in
+    let n : length (c .before .before .find-test .last .1 .1 .0) ≡ length (b .loop .work) = search needs in
+    (c .before .before .find-test .ensures, omega (arith, l .loop-test .taken, b .loop .inv .2), b .loop .inv .2, n ∙ b .loop .inv .3)
 
--- src/lib.rt:376:1
 same-length : tie.Need-same-length Inv-loop μ-loop
 same-length c = search needs
 
--- src/lib.rt:376:1
 returns : tie.Need-returns Inv-loop μ-loop
-returns c = search needs
+returns c =
+    let b = c .before in
+    let s = b .before .before .before .before .before in
+    let e : b .loop .j ≡ testCount (s .args .table .now) = omega (arith, c .loop-test .left, b .loop .inv .1, b .loop .inv .2) in
+    rw (toZ-ofZ w64 (s .args .hint) (s .fits .hint), e) at (b .loop .inv .0)
 
 pub find-spec : {M : Type 1} → statement M
 find-spec =

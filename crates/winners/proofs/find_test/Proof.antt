@@ -1,49 +1,62 @@
+-- `winners::find_test` meets its contract: a test is left out where its bound is not below the limit.
+-- Assumes nothing.
 use borrow.Author.Needs.{needs}
+use mathlib.Core.Path.{_≡_, sym, _∙_}
+use mathlib.Core.Bool.{false}
+use lib.Signed.{ltZ}
+use mir.Syntax.{w64}
+use mir.ValLaws.{toZ-ofZ}
+use Rattle.lists.specs.Laws.Integer.{not-less-within}
+use Rattle.laying.specs.Bounds.{slackOf}
+use Rattle.winners.specs.Laws.Finding.{searching-skip}
 use Rattle.winners.proofs.find_test.Statement.{statement}
 use Rattle.winners.proofs.find_test.Tie as tie
-use Rattle.winners.proofs.find_test.Reads as reads
-use Rattle.winners.proofs.find_test.Lts as lts
-use Rattle.winners.proofs.less.Reads as less-reads
-use Rattle.winners.proofs.limit_of.Reads as limit-of-reads
-use Rattle.winners.proofs.nearer.Reads as nearer-reads
-use Rattle.winners.proofs.slack_of.Reads as slack-of-reads
-use Rattle.winners.proofs.walk_more.Reads as walk-more-reads
 
--- src/lib.rt:363:9
 limit-of-requires : tie.Need-limit-of-requires
-limit-of-requires c κs = search needs
+limit-of-requires c κs = c .before .before .before .pre .searching .finding .sized
 
--- src/lib.rt:364:9
 slack-of-requires : tie.Need-slack-of-requires
-slack-of-requires c κs = search needs
+slack-of-requires c κs =
+    let s = c .before .before .before .before .before in
+    (record { clocked = s .pre .searching .finding .prepared .clocked; inside = s .pre .test }, s .pre .bounds .small)
 
--- src/lib.rt:365:8
 less-requires : tie.Need-less-requires
 less-requires c κs = search needs
 
--- src/lib.rt:366:9
 walk-more-requires : tie.Need-walk-more-requires
-walk-more-requires c κs = search needs
+walk-more-requires c κs =
+    let s = c .before .before .before .before .before .before .before .before .before in
+    (rw (toZ-ofZ w64 (s .args .hint) (s .fits .hint)) (s .pre .searching), s .pre .test)
 
--- src/lib.rt:366:9
 same-length : tie.Need-same-length
 same-length c = search needs
 
--- src/lib.rt:366:9
 returns : tie.Need-returns
-returns c = search needs
+returns c =
+    let w = c .before .before in
+    let s = w .before .before .before .before .before .before .before .before .before .before in
+    rw (toZ-ofZ w64 (s .args .hint) (s .fits .hint)) at (w .walk-more .ensures)
 
--- src/lib.rt:368:9
 nearer-requires : tie.Need-nearer-requires
 nearer-requires c κs = search needs
 
--- src/lib.rt:349:1
 same-length-2 : tie.Need-same-length-2
 same-length-2 c = search needs
 
--- src/lib.rt:349:1
 returns-2 : tie.Need-returns-2
-returns-2 c = search needs
+returns-2 c =
+    let e = c .before .before in
+    let l = e .before in
+    let o = l .before in
+    let m = o .before .before in
+    let s = m .before .before .before .before in
+    let f = toZ-ofZ w64 (o .slack-of .result) (record { sfits = o .slack-of .ok }) in
+    let i = toZ-ofZ w64 (m .limit-of .result) (record { sfits = m .limit-of .ok }) in
+    let g = toZ-ofZ w64 (s .args .found .out) (record { sfits = c .before .struct-told .given .1 .0 .1 }) in
+    let n : ltZ (slackOf (s .args .table .now) (s .args .mode) (s .args .j) (s .args .bound)) (m .limit-of .result) ≡ false =
+    sym (rw (f, i, o .slack-of .ensures) at (l .less .ensures)) ∙ e .if1 .left in
+    searching-skip _ _ _ _ _ _ _ _ _ _ _ _ _ (s .pre) (rw (toZ-ofZ w64 (s .args .hint) (s .fits .hint)) at (m .limit-of .ensures)) (not-less-within (slackOf (s .args .table .now) (s .args .mode) (s .args .j) (s .args .bound)) (m .limit-of .result) n) _
+    (toZ-ofZ w64 (c .nearer .result) (record { sfits = c .nearer .ok }) ∙ (rw (g, f, o .slack-of .ensures) at (c .nearer .ensures)))
 
 pub find-test-spec : {M : Type 1} → statement M
 find-test-spec =
