@@ -12,12 +12,12 @@ use Rattle.lists.specs.Choice.{pick}
 use Rattle.timing.specs.Limits.{workLength}
 use Rattle.timing.specs.Kinds.{R, B, K, I}
 use Rattle.timing.specs.Table.{Table, Edge, early, late, pinCount, testCount}
-use Rattle.timing.specs.Structure.{arcs, kind, enters, structure, times}
-use Rattle.timing.specs.Clock.{climb, common, clockArrival}
+use Rattle.timing.specs.Structure.{arcs, kind, leaves, enters, structure, times}
+use Rattle.timing.specs.Clock.{into, climb, common, clockArrival}
 use Rattle.timing.specs.Slack.{Mode, forSetup, forHold}
 use Rattle.timing.specs.Value.{creditFrom, seedOf}
 use Rattle.timing.specs.Check.{tableFault}
-use Rattle.area.specs.Area.{seedsAt, arrivalsAt, parentsAt, depthsAt}
+use Rattle.area.specs.Area.{seedsAt, arrivalsAt, parentsAt, depthsAt, driversAt}
 use Rattle.area.specs.Area as area
 
 -- ---- what is asked
@@ -39,12 +39,18 @@ pub record Parented (t : Table) (w : List ℕ) : Type 0 where
   pub parent : (a : ℕ) → a < arcs (structure t) → (kind (structure t) (enters (structure t) a) ≡ B) ⊎ (kind (structure t) (enters (structure t) a) ≡ K)
       → getD w (parentsAt + enters (structure t) a) 0 ≡ a
 
--- at each pin of the clock tree below n its arrivals and its depth
+-- the pin that drives a B or a K, which the one arc into it leaves; none at any other pin
+unfoldable pub driverFor : Table → ℕ → ℕ
+driverFor t p =
+    pick (eqb (kind (structure t) p) B || eqb (kind (structure t) p) K) (leaves (structure t) (getD (into (structure t) p) 0 0)) area.none
+
+-- at each pin of the clock tree below n its arrivals and its depth; at each pin below n its driver
 pub record ClockedTo (t : Table) (n : ℕ) (w : List ℕ) : Type 0 where
   pub arrival : (e : Edge) (p : ℕ) → p < n → ClockPin t p → getD w (arrivalsAt e + p) 0 ≡ clockArrival e (structure t) (times t) p
   pub depth : (p : ℕ) → p < n → ClockPin t p → getD w (depthsAt + p) 0 ≡ length (climb (structure t) p)
+  pub driver : (p : ℕ) → p < n → getD w (driversAt + p) 0 ≡ driverFor t p
 
--- parents, arrivals and depths of all
+-- parents, arrivals, depths and drivers of all
 pub record Clocked (t : Table) (w : List ℕ) : Type 0 where
   pub ready : Ready t w
   pub parents : Parented t w

@@ -1,4 +1,4 @@
-// The clock side of a checked table, in a lent work area: arrivals, parents and depths of the clock tree; the common pin and its credit; what each start brings
+// The clock side of a checked table, in a lent work area: arrivals, parents, depths and drivers of the clock tree; the common pin and its credit; what each start brings
 // to a test. All times are in picoseconds.
 use timing::Design;
 use timing::Kind;
@@ -10,7 +10,7 @@ ghost use Rattle.timing.specs.Structure.{structure, times};
 ghost use Rattle.timing.specs.Slack.{startArrival};
 ghost use Rattle.timing.specs.Rows.{modeOf};
 ghost use Rattle.timing.specs.Value.{raise, lower};
-ghost use Rattle.area.specs.Area.{Kept, seedsAt, creditsAt, clocksAt, parentsAt, depthsAt, turnsAt};
+ghost use Rattle.area.specs.Area.{Kept, seedsAt, creditsAt, clocksAt, parentsAt, depthsAt, driversAt, turnsAt};
 ghost use Rattle.clocks.specs.Clocked.{Ready, ClockPin, Parented, Clocked, Two, Asks, Starts, Tested, Common, Spans, Credited, Seed, creditIn, launched, seedFor, Seeded};
 ghost use Rattle.clocks.specs.Turn.{Next, NextDriven, Arrives, withClocking};
 
@@ -71,17 +71,18 @@ fn parent(table: &[u32], work: &[u64], p: usize) -> usize
     tables::of_arc(table, 0, count(at(work, area::PARENTS, p)))
 }
 
-// When the clock comes to a pin, and over how many arcs.
+// When the clock comes to a pin, over how many arcs, and from which pin.
 struct Clocking {
     early: u64,
     late: u64,
     depth: u64,
+    driver: u64,
 }
 
 // The clocking of a B or a K: the arrivals of the pin that drives it and the delay of the arc between.
 fn driven(table: &[u32], work: &[u64], p: usize) -> Clocking
     requires { ⌜ NextDriven (now table) p (now work) ⌝ }
-    ensures { λ r. ⌜ Arrives (now (table .entry)) p (r .early) (r .late) (r .depth) ⌝ }
+    ensures { λ r. ⌜ Arrives (now (table .entry)) p (r .early) (r .late) (r .depth) (r .driver) ⌝ }
 {
     let a = count(at(work, area::PARENTS, p));
     let from = tables::of_arc(table, 0, a);
@@ -89,14 +90,15 @@ fn driven(table: &[u32], work: &[u64], p: usize) -> Clocking
         early: at(work, area::EARLY, from) + word(tables::of_arc(table, 2, a)),
         late: at(work, area::LATE, from) + word(tables::of_arc(table, 3, a)),
         depth: at(work, area::DEPTHS, from) + 1,
+        driver: word(from),
     }
 }
 
-// The clocking of pin p, next in ascending order: R has its own arrivals; R apart, the kinds up to K are B and K. A pin of the data side has none, and gets
-// zeros.
+// The clocking of pin p, next in ascending order: R has its own arrivals and no driver; R apart, the kinds up to K are B and K. A pin of the data side has no
+// arrivals, gets zeros for them, and has no driver.
 fn clocking_of(table: &[u32], work: &[u64], p: usize) -> Clocking
     requires { ⌜ Next (now table) p (now work) ⌝ }
-    ensures { λ r. ⌜ Arrives (now (table .entry)) p (r .early) (r .late) (r .depth) ⌝ }
+    ensures { λ r. ⌜ Arrives (now (table .entry)) p (r .early) (r .late) (r .depth) (r .driver) ⌝ }
 {
     let kind = tables::of_pin(table, 0, p);
     if kind == Kind::R {
@@ -104,6 +106,7 @@ fn clocking_of(table: &[u32], work: &[u64], p: usize) -> Clocking
             early: word(tables::of_pin(table, 1, p)),
             late: word(tables::of_pin(table, 2, p)),
             depth: 0,
+            driver: area::NONE,
         };
     }
     if kind <= Kind::K {
@@ -113,20 +116,22 @@ fn clocking_of(table: &[u32], work: &[u64], p: usize) -> Clocking
         early: 0,
         late: 0,
         depth: 0,
+        driver: area::NONE,
     }
 }
 
-// The clocking of pin p goes to its three places.
+// The clocking of pin p goes to its four places.
 fn put_clocking(work: &mut [u64], p: usize, c: Clocking)
-    requires { ⌜ depthsAt + p < length (now work) ⌝ }
-    ensures { λ _. ⌜ now (work .exit) ≡ withClocking (now (work .entry)) p (c .early) (c .late) (c .depth) ⌝ }
+    requires { ⌜ driversAt + p < length (now work) ⌝ }
+    ensures { λ _. ⌜ now (work .exit) ≡ withClocking (now (work .entry)) p (c .early) (c .late) (c .depth) (c .driver) ⌝ }
 {
     put(work, area::EARLY, p, c.early);
     put(work, area::LATE, p, c.late);
     put(work, area::DEPTHS, p, c.depth);
+    put(work, area::DRIVERS, p, c.driver);
 }
 
-// Arrivals and depth of each clock pin, the pins ascending: every arc rises, so a pin comes after the pin that drives it.
+// Arrivals, depth and driver of each clock pin, the pins ascending: every arc rises, so a pin comes after the pin that drives it.
 pub fn arrivals(table: &[u32], work: &mut [u64])
     requires { ⌜ Ready (now table) (now work) × Parented (now table) (now work) ⌝ }
     ensures { λ _. ⌜ Clocked (now (table .entry)) (now (work .exit)) × Kept clocksAt turnsAt (now (work .entry)) (now (work .exit)) ⌝ }
@@ -140,7 +145,7 @@ pub fn arrivals(table: &[u32], work: &mut [u64])
     }
 }
 
-// The clock side of a table: parents, arrivals and depths. What stands in the area before and behind them stays.
+// The clock side of a table: parents, arrivals, depths and drivers. What stands in the area before and behind them stays.
 pub fn clocks(table: &[u32], work: &mut [u64])
     requires { ⌜ Ready (now table) (now work) ⌝ }
     ensures { λ _. ⌜ Clocked (now (table .entry)) (now (work .exit)) × Kept clocksAt turnsAt (now (work .entry)) (now (work .exit)) ⌝ }
