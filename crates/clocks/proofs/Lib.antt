@@ -2,4 +2,5 @@
 mod Turn
 mod Filling
 mod Meeting
+mod Basing
 mod Seeding

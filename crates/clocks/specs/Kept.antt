@@ -2,16 +2,19 @@
 -- Assumes nothing.
 use mathlib.Core.Path.{_≡_, refl, sym, ap, _∙_}
 use mathlib.Core.List.{List}
+use mathlib.Core.Option.{none}
 use Prim.Native.Nat.{ℕ, _+_, _-_, _≤_, _<_, min}
 use native.Mathlib.Omega.{arith}
 use lib.ListN.{length, getD, set, take, drop, length-set, length-take, length-drop}
 use lib.Seq.{getD-set-other, getD-take, getD-drop, ext-getD}
 use Rattle.timing.specs.Table.{Table, Edge, early, late, pinCount}
 use Rattle.timing.specs.Structure.{enters, structure}
+use Rattle.timing.specs.Slack.{Mode}
+use Rattle.timing.specs.Check.{tableFault}
 use Rattle.timing.specs.Laws.Columns.{pins-is}
 use Rattle.timing.specs.Laws.Accepted.{accepted}
 use Rattle.area.specs.Area.{Kept, arrivalsAt, clocksAt, parentsAt, depthsAt, driversAt, basesAt, turnsAt}
-use Rattle.clocks.specs.Clocked.{Ready, Parented, ClockedTo, Clocked}
+use Rattle.clocks.specs.Clocked.{Ready, Parented, ClockedTo, Clocked, Based}
 
 -- ---- any parts
 
@@ -118,3 +121,14 @@ clocked-drop t w v long e c = clocked-same t w v long (λ i h l. there i h) c
         ap (λ (j : ℕ). getD v j 0) (sym q) ∙ sym (getD-drop clocksAt v (i - clocksAt) 0)
         ∙ ap (λ (l : List ℕ). getD l (i - clocksAt) 0) e
         ∙ getD-drop clocksAt w (i - clocksAt) 0 ∙ ap (λ (j : ℕ). getD w j 0) q
+
+-- ---- the bases stay where their part stays
+
+pub based-same : (m : Mode) (t : Table) (w v : List ℕ) → tableFault t ≡ none → ((i : ℕ) → basesAt ≤ i → i < turnsAt → getD v i 0 ≡ getD w i 0)
+    → Based m t w → Based m t v
+based-same m t w v h same b =
+    record { base = λ p l. same (basesAt + p) (omega arith) (omega (arith, accepted t h .header .few-pins)) ∙ b .base p l }
+
+-- after a write before it
+pub based-kept : (m : Mode) (t : Table) (a e : ℕ) (w v : List ℕ) → tableFault t ≡ none → e ≤ basesAt → Kept a e w v → Based m t w → Based m t v
+based-kept m t a e w v h l k b = based-same m t w v h (λ i g n. k .back i (omega arith)) b

@@ -10,8 +10,8 @@ ghost use Rattle.timing.specs.Structure.{structure, times};
 ghost use Rattle.timing.specs.Slack.{startArrival};
 ghost use Rattle.timing.specs.Rows.{modeOf};
 ghost use Rattle.timing.specs.Value.{raise, lower};
-ghost use Rattle.area.specs.Area.{Kept, seedsAt, creditsAt, clocksAt, parentsAt, depthsAt, driversAt, turnsAt};
-ghost use Rattle.clocks.specs.Clocked.{Ready, ClockPin, Parented, Clocked, Two, Asks, Starts, Tested, Common, Spans, Credited, Seed, creditIn, launched, seedFor, Seeded};
+ghost use Rattle.area.specs.Area.{Kept, seedsAt, creditsAt, clocksAt, parentsAt, depthsAt, driversAt, basesAt, turnsAt};
+ghost use Rattle.clocks.specs.Clocked.{Ready, ClockPin, Parented, Clocked, Two, Asks, Starts, Tested, Common, Spans, Credited, Seed, creditIn, launched, baseFor, Based, seedFor, Seeded};
 ghost use Rattle.clocks.specs.Turn.{Next, NextDriven, Arrives, withClocking};
 
 // No clock arrival is later.
@@ -213,6 +213,40 @@ fn start_arrival(table: &[u32], mode: u32, work: &[u64], p: usize) -> u64
         return word(tables::of_pin(table, 2, p));
     }
     word(tables::of_pin(table, 1, p))
+}
+
+// What pin p brings before credit, where it is a start, a K or an I: in hold its arrival; in setup values count down from a height that grows with the pin's
+// number. NONE at any other pin.
+fn base_of(table: &[u32], mode: u32, work: &[u64], p: usize) -> u64
+    requires { ⌜ Starts (now table) (now work) p ⌝ }
+    ensures { λ r. ⌜ r ≡ baseFor (modeOf mode) (now (table .entry)) p ⌝ }
+{
+    let kind = tables::of_pin(table, 0, p);
+    let start = (kind == Kind::K) | (kind == Kind::I);
+    if start {
+        let arrival = start_arrival(table, mode, work, p);
+        if mode == 0 {
+            word(p * Design::DELAY) + (BASE - arrival)
+        } else {
+            arrival
+        }
+    } else {
+        area::NONE
+    }
+}
+
+// The bases of a mode, one for each pin. They serve the seeds of every test.
+pub fn bases(table: &[u32], mode: u32, work: &mut [u64])
+    requires { ⌜ Clocked (now table) (now work) ⌝ }
+    ensures { λ _. ⌜ Based (modeOf mode) (now (table .entry)) (now (work .exit)) × Kept basesAt turnsAt (now (work .entry)) (now (work .exit)) ⌝ }
+{
+    let n = tables::pin_count(table);
+    let mut p = 0;
+    while p < n {
+        let base = base_of(table, mode, work, p);
+        put(work, area::BASES, p, base);
+        p += 1;
+    }
 }
 
 // The seed of pin p for a test with the clock pin c: in hold its arrival and its credit; in setup values count down from a height that grows with the
