@@ -4,3 +4,5 @@ mod Filling
 mod Meeting
 mod Basing
 mod Seeding
+mod Routing
+mod Handing

@@ -98,11 +98,6 @@ creditIn w p = getD w (arrivalsAt late + p) 0 - getD w (arrivalsAt early + p) 0
 pub record Credited (t : Table) (c p r : ℕ) : Type 0 where
   pub is : (m : Mode) → r ≡ creditFrom m (structure t) (times t) c p
 
--- the seed of p for the test clock c; a value of the engine stays below 2 ^ 30
-pub record Seed (m : Mode) (t : Table) (c p r : ℕ) : Type 0 where
-  pub is : r ≡ seedOf m (λ q. q) (structure t) (times t) c p
-  pub small : r < 1073741824
-
 -- which arrival of a start counts: the late one in setup, the early one in hold
 abbrev pub launched : Mode → Edge
 launched forSetup = late

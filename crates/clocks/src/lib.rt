@@ -7,11 +7,12 @@ ghost use Prim.Native.Nat.{_+_, _<_};
 ghost use lib.ListN.{length, getD, set};
 ghost use Rattle.timing.specs.Table.{pinCount, arcFrom};
 ghost use Rattle.timing.specs.Structure.{structure, times};
-ghost use Rattle.timing.specs.Slack.{startArrival};
+ghost use Rattle.timing.specs.Slack.{Mode, startArrival};
 ghost use Rattle.timing.specs.Rows.{modeOf};
 ghost use Rattle.timing.specs.Value.{raise, lower};
-ghost use Rattle.area.specs.Area.{Kept, seedsAt, creditsAt, clocksAt, parentsAt, depthsAt, driversAt, basesAt, turnsAt};
-ghost use Rattle.clocks.specs.Clocked.{Ready, ClockPin, Parented, Clocked, Two, Asks, Starts, Tested, Common, Spans, Credited, Seed, creditIn, launched, baseFor, Based, seedFor, Seeded};
+ghost use Rattle.area.specs.Area.{Kept, seedsAt, creditsAt, clocksAt, parentsAt, depthsAt, driversAt, basesAt, turnsAt, none};
+ghost use Rattle.clocks.specs.Clocked.{Ready, ClockPin, Parented, Clocked, Two, Asks, Starts, Tested, Common, Spans, Credited, creditIn, launched, baseFor, Based, seedWith, Seeded};
+ghost use Rattle.clocks.specs.Route.{Unmarked, Marked, Turn, creditDown, withSeed};
 ghost use Rattle.clocks.specs.Turn.{Next, NextDriven, Arrives, withClocking};
 
 // No clock arrival is later.
@@ -249,45 +250,83 @@ pub fn bases(table: &[u32], mode: u32, work: &mut [u64])
     }
 }
 
-// The seed of pin p for a test with the clock pin c: in hold its arrival and its credit; in setup values count down from a height that grows with the
-// pin's number.
-pub fn seed_at(table: &[u32], mode: u32, work: &[u64], c: usize, p: usize) -> u64
-    requires { ⌜ Asks (now table) (now work) c p ⌝ }
-    ensures { λ r. ⌜ Seed (modeOf mode) (now (table .entry)) c p r ⌝ }
-{
-    let credit = credit_from(table, work, c, p);
-    let arrival = start_arrival(table, mode, work, p);
-    if mode == 0 {
-        word(p * Design::DELAY) + (BASE + credit - arrival)
-    } else {
-        arrival + credit
-    }
-}
-
-// The seed of a K or an I, no start at any other pin.
-fn seed_for(table: &[u32], mode: u32, work: &[u64], c: usize, p: usize) -> u64
-    requires { ⌜ Asks (now table) (now work) c p ⌝ }
-    ensures { λ r. ⌜ r ≡ seedFor (modeOf mode) (now (table .entry)) c p ⌝ }
-{
-    let kind = tables::of_pin(table, 0, p);
-    let start = (kind == Kind::K) | (kind == Kind::I);
-    if start {
-        seed_at(table, mode, work, c, p)
-    } else {
-        area::NONE
-    }
-}
-
-// The seeds of a test with the clock pin c, one for each pin.
-pub fn seeds(table: &[u32], mode: u32, work: &mut [u64], c: usize)
-    requires { ⌜ Clocked (now table) (now work) × ClockPin (now table) c ⌝ }
-    ensures { λ _. ⌜ Seeded (modeOf mode) (now (table .entry)) c (pinCount (now (table .entry))) (now (work .exit)) × Kept seedsAt creditsAt (now (work .entry)) (now (work .exit)) ⌝ }
+// No pin has a credit against the test's clock yet.
+fn no_credits(table: &[u32], work: &mut [u64])
+    requires { ⌜ Ready (now table) (now work) ⌝ }
+    ensures { λ _. ⌜ Unmarked (now (table .entry)) (now (work .exit)) × Kept creditsAt clocksAt (now (work .entry)) (now (work .exit)) ⌝ }
 {
     let n = tables::pin_count(table);
     let mut p = 0;
     while p < n {
-        let seed = seed_for(table, mode, work, c, p);
-        put(work, area::SEEDS, p, seed);
+        put(work, area::CREDITS, p, area::NONE);
+        p += 1;
+    }
+}
+
+// Each pin on the way from clock pin c up to R has its own credit, any other pin none.
+fn mark_route(table: &[u32], work: &mut [u64], c: usize)
+    requires { ⌜ Clocked (now table) (now work) × ClockPin (now table) c ⌝ }
+    ensures { λ _. ⌜ Marked (now (table .entry)) c (now (work .exit)) × Kept creditsAt clocksAt (now (work .entry)) (now (work .exit)) ⌝ }
+{
+    no_credits(table, work);
+    let mut pin = word(c);
+    while pin < area::NONE {
+        let v = count(pin);
+        let credit = credit_at(work, v);
+        put(work, area::CREDITS, v, credit);
+        pin = at(work, area::DRIVERS, v);
+    }
+}
+
+// The credit of clock pin p against the test's clock: its own if it is on the route, else that of the pin that drives it.
+fn credit_down(work: &[u64], p: usize, driver: usize) -> u64
+    requires { ⌜ (creditsAt + p < length (now work)) × (creditsAt + driver < length (now work)) ⌝ }
+    ensures { λ r. ⌜ r ≡ creditDown (now (work .entry)) p driver ⌝ }
+{
+    let own = at(work, area::CREDITS, p);
+    if own < area::NONE {
+        return own;
+    }
+    at(work, area::CREDITS, driver)
+}
+
+// The seed of a base and a credit: NONE where there is no base.
+fn seed_with(base: u64, credit: u64) -> u64
+    requires { ⌜ credit < none ⌝ }
+    ensures { λ r. ⌜ r ≡ seedWith base credit ⌝ }
+{
+    if base < area::NONE {
+        return base + credit;
+    }
+    area::NONE
+}
+
+// The seed of pin p, next in ascending order, and where a pin drives it its credit. The credit of a start that nothing drives, an I, is 0.
+fn lay_seed(work: &mut [u64], p: usize)
+    requires { ⌜ Turn (now work) p ⌝ }
+    ensures { λ _. ⌜ now (work .exit) ≡ withSeed (now (work .entry)) p ⌝ }
+{
+    let driver = at(work, area::DRIVERS, p);
+    let base = at(work, area::BASES, p);
+    if driver < area::NONE {
+        let credit = credit_down(work, p, count(driver));
+        put(work, area::CREDITS, p, credit);
+        put(work, area::SEEDS, p, seed_with(base, credit));
+    } else {
+        put(work, area::SEEDS, p, base);
+    }
+}
+
+// The seeds of a test with the clock pin c, one for each pin, in the mode of the bases.
+pub fn seeds(table: &[u32], work: &mut [u64], c: usize)
+    requires { ⌜ Clocked (now table) (now work) × ClockPin (now table) c ⌝ }
+    ensures { λ _. ⌜ ((m : Mode) → Based m (now (table .entry)) (now (work .entry)) → Seeded m (now (table .entry)) c (pinCount (now (table .entry))) (now (work .exit))) × Kept seedsAt clocksAt (now (work .entry)) (now (work .exit)) ⌝ }
+{
+    mark_route(table, work, c);
+    let n = tables::pin_count(table);
+    let mut p = 0;
+    while p < n {
+        lay_seed(work, p);
         p += 1;
     }
 }
