@@ -2,14 +2,14 @@
 -- the first pins. Assumes nothing.
 use mathlib.Core.Path.{_≡_, refl, sym, ap, ap₂, _∙_}
 use mathlib.Core.Logic.{_⊎_, inl, inr, ⊎-elim, _≢_}
-use mathlib.Core.Bool.{Bool, true, false, _||_, true≢false}
+use mathlib.Core.Bool.{Bool, true, false, true≢false}
 use mathlib.Core.List.{List}
 use mathlib.Core.Option.{none}
 use Prim.Native.Nat.{ℕ, _+_, _≤_, _<_}
 use native.Mathlib.Decide.{ℕ-discrete}
 use native.Mathlib.Omega.{arith}
-use borrow.Author.Tests.{lt-ltb, le-ltb, eq-eqb, ne-eqb}
-use lib.Dec.{eqb, ltb}
+use borrow.Author.Tests.{lt-ltb, le-ltb, ne-eqb}
+use lib.Dec.{eqb}
 use lib.ListN.{length, getD, set, length-set}
 use lib.Seq.{getD-set-same, getD-set-other}
 use Rattle.lists.specs.Choice.{pick}
@@ -21,7 +21,6 @@ use Rattle.timing.specs.Table.{Table, pinCount}
 use Rattle.timing.specs.Structure.{kind, structure, times}
 use Rattle.timing.specs.Clock.{route, root, common, pinCredit}
 use Rattle.timing.specs.Slack.{Mode}
-use Rattle.timing.specs.Value.{creditFrom}
 use Rattle.timing.specs.Check.{tableFault}
 use Rattle.timing.specs.Laws.Routes.{any-here, here-any, root-only, root-route}
 use Rattle.timing.specs.Laws.Common.{common-here}
@@ -30,13 +29,13 @@ use Rattle.timing.specs.Laws.Accepted.{accepted}
 use Rattle.area.specs.Area.{Kept, seedsAt, creditsAt, clocksAt, driversAt, basesAt}
 use Rattle.area.specs.Area as area
 use Rattle.clocks.specs.Clocked.{ClockPin, Clocked, Based, Seeded, driverFor, baseFor, seedFor, seedWith}
-use Rattle.clocks.specs.Route.{Marked, Turn, routeCredit, driverIn, creditDown, laidWith, withSeed}
+use Rattle.clocks.specs.Route.{Marked, NextSeed, routeCredit, driverIn, creditDown, withSeed}
 use Rattle.clocks.specs.Small.{few-pins, pin-place, common-most}
 use Rattle.clocks.specs.Tree.{driver-none}
 use Rattle.clocks.specs.Known.{seed-base, seed-with}
 use Rattle.clocks.specs.Kept.{kept-none, kept-set}
 use Rattle.clocks.proofs.Seeding.{credit-some, credit-none}
-use Rattle.clocks.proofs.Routing.{Rising, rising, driver-pin}
+use Rattle.clocks.proofs.Routing.{Rising, rising, driven-or-free, driver-pin}
 
 -- ---- one turn, as the code takes it
 
@@ -51,16 +50,6 @@ module _ (w : List ℕ) (p d : ℕ) (e : d ≡ driverIn w p) where
   turn-free b l g = rw (← e, le-ltb d area.none l, ← g)
 
 -- ---- the seed of a pin
-
--- a B or a K, or none of the two
-driven-or-free : (k : ℕ) → ((k ≡ B) ⊎ (k ≡ K)) ⊎ ((k ≢ B) × (k ≢ K))
-driven-or-free k = elim (ℕ-discrete k B) [
-  | yes e ↦ inl (inl e)
-  | no e ↦ elim (ℕ-discrete k K) [
-    | yes f ↦ inl (inr f)
-    | no f ↦ inr (e, f)
-  ]
-]
 
 module _ (t : Table) (h : tableFault t ≡ none) (m : Mode) (c p : ℕ) (l : p < pinCount t) where
   -- where a pin drives p: a K has the credit of the common pin, a B no seed
@@ -163,8 +152,8 @@ module _ (t : Table) (c p : ℕ) (w₀ w : List ℕ) (s : Handing t c p w₀ w) 
       go (inr (inl e)) = absurd (n .0 e)
       go (inr (inr e)) = absurd (n .1 e)
 
-  pub handing-turn : Turn w p
-  handing-turn =
+  pub handing-next : NextSeed w p
+  handing-next =
       record {
         room = omega (arith, few, room);
         below = λ g. rw driver-is (driver-pin t w₀ (s .clocked) p l (rw driver-is at g) .1);

@@ -1,38 +1,36 @@
 -- Seeds by the route of a test's clock. The route is marked from c up: what is left of it is the route of the pin at hand, and after R nothing. Then credits go
 -- down the tree, from driver to driven, and each start's seed is its base with its credit. Assumes nothing.
-use mathlib.Core.Path.{_≡_, refl, sym, ap, ap₂, _∙_}
+use mathlib.Core.Path.{_≡_, refl, sym, ap, _∙_}
 use mathlib.Core.Logic.{_⊎_, inl, inr, ⊎-elim, _≢_}
-use mathlib.Core.Bool.{Bool, true, false, _||_, true≢false}
+use mathlib.Core.Bool.{Bool, true, false, true≢false}
 use mathlib.Core.List.{List, [], _∷_}
 use mathlib.Core.Option.{none}
 use Prim.Native.Nat.{ℕ, _+_, _≤_, _<_}
 use native.Mathlib.Decide.{ℕ-discrete}
 use native.Mathlib.Omega.{arith}
-use borrow.Author.Tests.{lt-ltb, le-ltb, eq-eqb, ne-eqb}
+use borrow.Author.Tests.{ltb-true, lt-ltb, le-ltb}
 use lib.Dec.{eqb, ltb}
-use lib.ListN.{length, getD, set, length-set}
+use lib.ListN.{length, getD, set}
 use lib.Seq.{getD-set-same, getD-set-other}
 use Rattle.lists.specs.Choice.{pick}
 use Rattle.lists.specs.Parts.{any}
 use Rattle.lists.specs.Laws.Member.{In}
 use Rattle.timing.specs.Limits.{workLength}
-use Rattle.timing.specs.Kinds.{R, B, K, I}
-use Rattle.timing.specs.Table.{Table, pinCount, arcFrom}
+use Rattle.timing.specs.Kinds.{R, B, K}
+use Rattle.timing.specs.Table.{Table, pinCount}
 use Rattle.timing.specs.Structure.{kind, structure, times}
-use Rattle.timing.specs.Clock.{into, route, root, common, pinCredit}
-use Rattle.timing.specs.Slack.{Mode}
-use Rattle.timing.specs.Value.{creditFrom, seedOf}
+use Rattle.timing.specs.Clock.{into, route, common, pinCredit}
 use Rattle.timing.specs.Check.{tableFault}
-use Rattle.timing.specs.Laws.Routes.{any-here, here-any, self-route, route-top, route-step, root-only, root-route}
-use Rattle.timing.specs.Laws.Common.{root-none, common-here, common-up}
+use Rattle.timing.specs.Laws.Routes.{any-here, here-any, route-top, route-step, root-only}
+use Rattle.timing.specs.Laws.Common.{root-none, common-up}
 use Rattle.timing.specs.Laws.Accepted.{accepted}
-use Rattle.area.specs.Area.{Kept, seedsAt, creditsAt, clocksAt, driversAt, basesAt}
+use Rattle.area.specs.Area.{Kept, creditsAt, clocksAt, driversAt}
 use Rattle.area.specs.Area as area
-use Rattle.clocks.specs.Clocked.{Ready, ClockPin, Parented, Clocked, Based, Seeded, creditIn, driverFor, baseFor, baseOf, seedFor, seedWith}
-use Rattle.clocks.specs.Route.{Unmarked, Marked, Turn, routeCredit, driverIn, creditDown, laidWith, withSeed}
-use Rattle.clocks.specs.Small.{few-pins, pin-place, common-most}
+use Rattle.clocks.specs.Clocked.{Ready, ClockPin, Parented, Clocked, creditIn, driverFor}
+use Rattle.clocks.specs.Route.{Unmarked, Marked, routeCredit}
+use Rattle.clocks.specs.Small.{few-pins, pin-place}
 use Rattle.clocks.specs.Tree.{Driven, driven, driver-some, driver-none}
-use Rattle.clocks.specs.Known.{seed-with, seed-none, credit-is}
+use Rattle.clocks.specs.Known.{credit-is}
 use Rattle.clocks.specs.Kept.{kept-none, kept-set, clocked-kept}
 
 -- ---- no credits
@@ -69,7 +67,7 @@ clearing-end t p w₀ w s l = record { clear = λ q g. s .so-far q (omega arith)
 unfoldable pub upward : Table → ℕ → List ℕ
 upward t u = pick (ltb u area.none) (route (structure t) u) []
 
--- how many places below u its route can have
+-- what falls on the way up: one more than the pin's number; 0 of no pin
 unfoldable pub above : ℕ → ℕ
 above u = pick (ltb u area.none) (u + 1) 0
 
@@ -81,12 +79,12 @@ upward-none : (t : Table) (u : ℕ) → area.none ≤ u → upward t u ≡ []
 unfolding upward pick
 upward-none t u l = rw (le-ltb u area.none l)
 
-pub above-less : (u v : ℕ) → u < area.none → (v < area.none → v < u) → above v < above u
+above-less : (u v : ℕ) → u < area.none → (v < area.none → v < u) → above v < above u
 unfolding above pick
 above-less u v l f = rw (lt-ltb u area.none l) (go (ltb v area.none) refl)
   where
     go : (b : Bool) → ltb v area.none ≡ b → pick b (v + 1) 0 < u + 1
-    go true e = omega (arith, f (borrow.Author.Tests.ltb-true v area.none e))
+    go true e = omega (arith, f (ltb-true v area.none e))
     go false e = omega arith
 
 -- the driver of clock pin p: the rest of p's route begins at it, and off c's route p and it have the same common pin with c
@@ -135,15 +133,19 @@ route-left t w c p k = go (k .clock)
         let small : driverFor t p < area.none = omega (arith, r .below, k .inside, few-pins t (c .ready .checked)) in
         r .rest ∙ ap (λ (l : List ℕ). p ∷ l) (sym (upward-pin t (driverFor t p) small))
 
--- a driver is a clock pin below the pin that it drives
-pub driver-pin : (t : Table) (w : List ℕ) → Clocked t w → (p : ℕ) → p < pinCount t → driverFor t p < area.none → ClockPin t (driverFor t p) × (driverFor t p < p)
-driver-pin t w c p l g = elim (ℕ-discrete (kind (structure t) p) B) [
-  | yes e ↦ on (inl e)
-  | no e ↦ elim (ℕ-discrete (kind (structure t) p) K) [
-    | yes f ↦ on (inr f)
-    | no f ↦ absurd (no-way (driver-none t p e f))
+-- a B or a K, or none of the two
+pub driven-or-free : (k : ℕ) → ((k ≡ B) ⊎ (k ≡ K)) ⊎ ((k ≢ B) × (k ≢ K))
+driven-or-free k = elim (ℕ-discrete k B) [
+  | yes e ↦ inl (inl e)
+  | no e ↦ elim (ℕ-discrete k K) [
+    | yes f ↦ inl (inr f)
+    | no f ↦ inr (e, f)
   ]
 ]
+
+-- a driver is a clock pin below the pin that it drives
+pub driver-pin : (t : Table) (w : List ℕ) → Clocked t w → (p : ℕ) → p < pinCount t → driverFor t p < area.none → ClockPin t (driverFor t p) × (driverFor t p < p)
+driver-pin t w c p l g = ⊎-elim on (λ n. absurd (no-way (driver-none t p (n .0) (n .1)))) (driven-or-free (kind (structure t) p))
   where
     on : (kind (structure t) p ≡ B) ⊎ (kind (structure t) p ≡ K) → ClockPin t (driverFor t p) × (driverFor t p < p)
     on k = let r = rising t (c .ready .checked) w (c .parents) p l k in (r .pin, r .below)

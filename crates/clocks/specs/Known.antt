@@ -8,7 +8,7 @@ use mathlib.Core.Option.{none}
 use Prim.Native.Nat.{ℕ, _+_, _-_, _<_}
 use native.Mathlib.Omega.{arith}
 use borrow.Author.Tests.{lt-ltb, ne-eqb}
-use lib.Dec.{eqb, ltb}
+use lib.Dec.{eqb}
 use Rattle.lists.specs.Choice.{pick}
 use Rattle.timing.specs.Kinds.{K, I}
 use Rattle.timing.specs.Table.{Table, early, late, pinCount, testCount, pinKind, testClock, testData}

@@ -38,7 +38,7 @@ unfoldable pub creditDown : List ℕ → ℕ → ℕ → ℕ
 creditDown w p u = pick (ltb (getD w (creditsAt + p) 0) none) (getD w (creditsAt + p) 0) (getD w (creditsAt + u) 0)
 
 -- where a pin drives p, it is below p, and the credit that comes down is one
-pub record Turn (w : List ℕ) (p : ℕ) : Type 0 where
+pub record NextSeed (w : List ℕ) (p : ℕ) : Type 0 where
   pub room : basesAt + p < length w
   pub below : driverIn w p < none → driverIn w p < p
   pub light : driverIn w p < none → creditDown w p (driverIn w p) < none

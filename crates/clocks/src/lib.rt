@@ -1,5 +1,5 @@
-// The clock side of a checked table, in a lent work area: arrivals, parents, depths and drivers of the clock tree; the common pin and its credit; what each start brings
-// to a test. All times are in picoseconds.
+// The clock side of a checked table, in a lent work area: arrivals, parents, depths and drivers of the clock tree; the common pin and its credit; what each
+// start brings to a test. All times are in picoseconds.
 use timing::Design;
 use timing::Kind;
 ghost use mathlib.Core.Path.{_≡_};
@@ -12,7 +12,7 @@ ghost use Rattle.timing.specs.Rows.{modeOf};
 ghost use Rattle.timing.specs.Value.{raise, lower};
 ghost use Rattle.area.specs.Area.{Kept, seedsAt, creditsAt, clocksAt, parentsAt, depthsAt, driversAt, basesAt, turnsAt, none};
 ghost use Rattle.clocks.specs.Clocked.{Ready, ClockPin, Parented, Clocked, Two, Asks, Starts, Tested, Common, Spans, Credited, creditIn, launched, baseFor, Based, seedWith, Seeded};
-ghost use Rattle.clocks.specs.Route.{Unmarked, Marked, Turn, creditDown, withSeed};
+ghost use Rattle.clocks.specs.Route.{Unmarked, Marked, NextSeed, creditDown, withSeed};
 ghost use Rattle.clocks.specs.Turn.{Next, NextDriven, Arrives, withClocking};
 
 // No clock arrival is later.
@@ -197,7 +197,7 @@ pub fn credit_from(table: &[u32], work: &[u64], c: usize, p: usize) -> u64
     }
 }
 
-// ---- what a start brings, and what is common to the paths of a test
+// ---- what a start brings before credit
 
 // The arrival of start p that counts in the mode (0 setup: late; else hold: early): a K's clock arrival, an I's own.
 fn start_arrival(table: &[u32], mode: u32, work: &[u64], p: usize) -> u64
@@ -249,6 +249,8 @@ pub fn bases(table: &[u32], mode: u32, work: &mut [u64])
         p += 1;
     }
 }
+
+// ---- the seeds of a test, by the route of its clock
 
 // No pin has a credit against the test's clock yet.
 fn no_credits(table: &[u32], work: &mut [u64])
@@ -303,7 +305,7 @@ fn seed_with(base: u64, credit: u64) -> u64
 
 // The seed of pin p, next in ascending order, and where a pin drives it its credit. The credit of a start that nothing drives, an I, is 0.
 fn lay_seed(work: &mut [u64], p: usize)
-    requires { ⌜ Turn (now work) p ⌝ }
+    requires { ⌜ NextSeed (now work) p ⌝ }
     ensures { λ _. ⌜ now (work .exit) ≡ withSeed (now (work .entry)) p ⌝ }
 {
     let driver = at(work, area::DRIVERS, p);
@@ -330,6 +332,8 @@ pub fn seeds(table: &[u32], work: &mut [u64], c: usize)
         p += 1;
     }
 }
+
+// ---- what is common to the paths of a test
 
 // What is added to the value of a path of test j: in setup the early arrival of its clock and the period.
 pub fn raise_of(table: &[u32], mode: u32, work: &[u64], j: usize) -> u64

@@ -1,5 +1,4 @@
 -- `clocks::base_of` meets its contract, by the kind of the pin and the mode. No arrival is above 256,000,000, so the difference is one. Assumes nothing.
-use mathlib.Core.Path.{sym}
 use Prim.Native.Nat.{_≤_}
 use native.Mathlib.Omega.{arith}
 use borrow.Author.Needs.{needs}

@@ -1,6 +1,4 @@
 -- `clocks::credit_down` meets its contract, by whether the pin has a credit. Assumes nothing.
-use mathlib.Core.Path.{_≡_, sym, _∙_}
-use native.Mathlib.Omega.{arith}
 use borrow.Author.Needs.{needs}
 use borrow.Author.Tests.{lt-ltb, le-ltb}
 use Rattle.lists.specs.Choice.{pick}

@@ -1,6 +1,5 @@
 -- `clocks::mark_route` meets its contract: what is left of c's route is the route of the pin at hand, which its driver shortens. Assumes nothing.
-use mathlib.Core.Path.{_≡_, ap, _∙_}
-use Prim.Native.Nat.{_<_}
+use mathlib.Core.Path.{ap}
 use native.Mathlib.Omega.{arith}
 use borrow.Author.Needs.{needs}
 use lib.ListN.{length, length-set}

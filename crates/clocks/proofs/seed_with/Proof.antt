@@ -1,5 +1,4 @@
 -- `clocks::seed_with` meets its contract, by whether there is a base. Assumes nothing.
-use native.Mathlib.Omega.{arith}
 use borrow.Author.Needs.{needs}
 use borrow.Author.Tests.{lt-ltb, le-ltb}
 use Rattle.lists.specs.Choice.{pick}

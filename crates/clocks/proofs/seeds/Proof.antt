@@ -5,7 +5,7 @@ use native.Mathlib.Omega.{arith}
 use borrow.Author.Needs.{needs}
 use Rattle.area.specs.Area.{creditsAt, clocksAt}
 use Rattle.clocks.specs.Kept.{kept-join, kept-wider, clocked-kept, based-kept}
-use Rattle.clocks.proofs.Handing.{Handing, handing-none, handing-turn, handing-step, handing-end}
+use Rattle.clocks.proofs.Handing.{Handing, handing-none, handing-next, handing-step, handing-end}
 use Rattle.clocks.proofs.seeds.Statement.{statement}
 use Rattle.clocks.proofs.seeds.Tie as tie
 
@@ -28,7 +28,7 @@ loop-holds c =
     handing-none _ _ _ (clocked-kept _ creditsAt clocksAt _ _ (omega arith) (r .mark-route .ensures .1) (s .pre .0)) (s .pre .1) (r .mark-route .ensures .0)
 
 lay-seed-requires : tie.Need-lay-seed-requires Inv-loop μ-loop
-lay-seed-requires c κs = let l = c .before .before .loop in handing-turn _ _ (l .p) _ _ (l .inv) (omega arith)
+lay-seed-requires c κs = let l = c .before .before .loop in handing-next _ _ (l .p) _ _ (l .inv) (omega arith)
 
 add-p : tie.Need-add-p Inv-loop μ-loop
 add-p c = search needs
