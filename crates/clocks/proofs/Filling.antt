@@ -17,8 +17,8 @@ use Rattle.timing.specs.Check.{tableFault}
 use Rattle.timing.specs.Laws.Common.{only-in}
 use Rattle.timing.specs.Laws.Columns.{pins-is, arcs-is, enters-is}
 use Rattle.timing.specs.Laws.Accepted.{accepted}
-use Rattle.area.specs.Area.{Kept, arrivalsAt, clocksAt, parentsAt, depthsAt, turnsAt}
-use Rattle.clocks.specs.Clocked.{Ready, ClockPin, Parented, ClockedTo, Clocked}
+use Rattle.area.specs.Area.{Kept, arrivalsAt, clocksAt, parentsAt, depthsAt, driversAt, turnsAt}
+use Rattle.clocks.specs.Clocked.{Ready, ClockPin, Parented, ClockedTo, Clocked, driverFor}
 use Rattle.clocks.specs.Turn.{Next, Arrives}
 use Rattle.clocks.specs.Small.{few-pins, arc-place}
 use Rattle.clocks.specs.Kept.{kept-none, kept-set}
@@ -93,14 +93,35 @@ going-none t w r h =
       ready = r;
       most = omega arith;
       parents = h;
-      so-far = record { arrival = λ e p l k. absurd (omega arith); depth = λ p l k. absurd (omega arith) };
+      so-far = record { arrival = λ e p l k. absurd (omega arith); depth = λ p l k. absurd (omega arith); driver = λ p l. absurd (omega arith) };
       kept = kept-none _ _ w;
     }
 
--- after three stores, at another place
-three-other : (w : List ℕ) (i j k x y z n : ℕ) → n ≢ i → n ≢ j → n ≢ k → getD (set (set (set w i x) j y) k z) n 0 ≡ getD w n 0
-three-other w i j k x y z n a b c =
-    getD-set-other (set (set w i x) j y) k n z 0 c ∙ getD-set-other (set w i x) j n y 0 b ∙ getD-set-other w i n x 0 a
+-- what four stores leave: each number at its place, any other place as it was
+record Laid (w v : List ℕ) (i j k m x y z u : ℕ) : Type 0 where
+  one : getD v i 0 ≡ x
+  two : getD v j 0 ≡ y
+  three : getD v k 0 ≡ z
+  four : getD v m 0 ≡ u
+  other : (n : ℕ) → n ≢ i → n ≢ j → n ≢ k → n ≢ m → getD v n 0 ≡ getD w n 0
+
+laid : (w : List ℕ) (i j k m x y z u : ℕ) → i < j → j < k → k < m → m < length w → Laid w (set (set (set (set w i x) j y) k z) m u) i j k m x y z u
+laid w i j k m x y z u a b c l =
+    let w₁ = set w i x in
+    let w₂ = set w₁ j y in
+    let w₃ = set w₂ k z in
+    record {
+      one =
+          getD-set-other w₃ m i u 0 (λ e. omega arith) ∙ getD-set-other w₂ k i z 0 (λ e. omega arith) ∙ getD-set-other w₁ j i y 0 (λ e. omega arith)
+          ∙ getD-set-same w i x 0 (omega arith);
+      two =
+          getD-set-other w₃ m j u 0 (λ e. omega arith) ∙ getD-set-other w₂ k j z 0 (λ e. omega arith)
+          ∙ getD-set-same w₁ j y 0 (rw length-set (omega arith));
+      three = getD-set-other w₃ m k u 0 (λ e. omega arith) ∙ getD-set-same w₂ k z 0 (simp length-set (omega arith));
+      four = getD-set-same w₃ m u 0 (simp length-set (omega arith));
+      other = λ n e f g h.
+          getD-set-other w₃ m n u 0 h ∙ getD-set-other w₂ k n z 0 g ∙ getD-set-other w₁ j n y 0 f ∙ getD-set-other w i n x 0 e;
+    }
 
 module _ (t : Table) (p : ℕ) (w₀ w : List ℕ) (s : Going t p w₀ w) (l : p < pinCount t) where
   few : p < 256
@@ -112,16 +133,27 @@ module _ (t : Table) (p : ℕ) (w₀ w : List ℕ) (s : Going t p w₀ w) (l : p
   pub going-next : Next t p w
   going-next = record { ready = record { checked = s .ready .checked; room = room }; parents = s .parents; so-far = s .so-far; inside = l }
 
-  module _ (e f d : ℕ) (a : Arrives t p e f d) where
-    -- one store, two, three
+  module _ (e f d u : ℕ) (a : Arrives t p e f d u) where
+    -- one store, two, three, four
     abbrev one : List ℕ
-    one = set w (5889 + p) e
+    one = set w (arrivalsAt early + p) e
 
     abbrev two : List ℕ
-    two = set one (6145 + p) f
+    two = set one (arrivalsAt late + p) f
+
+    abbrev three : List ℕ
+    three = set two (depthsAt + p) d
 
     abbrev now : List ℕ
-    now = set two (6657 + p) d
+    now = set three (driversAt + p) u
+
+    stores : Laid w now (arrivalsAt early + p) (arrivalsAt late + p) (depthsAt + p) (driversAt + p) e f d u
+    stores =
+        laid w (arrivalsAt early + p) (arrivalsAt late + p) (depthsAt + p) (driversAt + p) e f d u (omega arith) (omega arith) (omega arith) (omega (arith, few, room))
+
+    -- what stands in any part but at p's place
+    aside : (n : ℕ) → n ≢ arrivalsAt early + p → n ≢ arrivalsAt late + p → n ≢ depthsAt + p → n ≢ driversAt + p → getD now n 0 ≡ getD w n 0
+    aside = stores .other
 
     pub going-step : Going t (p + 1) w₀ now
     going-step =
@@ -132,42 +164,47 @@ module _ (t : Table) (p : ℕ) (w₀ w : List ℕ) (s : Going t p w₀ w) (l : p
             parent = λ b g k.
                 let m : enters (structure t) b < pinCount t = rw (pins-is t) at (accepted t (s .ready .checked) .sound .to-in b g) in
                 let n : enters (structure t) b < 256 = omega (arith, few-pins t (s .ready .checked)) in
-                three-other w (5889 + p) (6145 + p) (6657 + p) e f d (6401 + enters (structure t) b) (λ z. omega (arith, few)) (λ z. omega (arith, few)) (λ z. omega (arith, few))
+                aside (parentsAt + enters (structure t) b) (λ z. omega (arith, few)) (λ z. omega (arith, few)) (λ z. omega (arith, few)) (λ z. omega (arith, few))
                 ∙ s .parents .parent b g k;
           };
-          so-far = record { arrival = came; depth = deep };
+          so-far = record { arrival = came; depth = deep; driver = drove };
           kept =
-              kept-set _ _ w₀ two (6657 + p) d
-              (kept-set _ _ w₀ one (6145 + p) f (kept-set _ _ w₀ w (5889 + p) e (s .kept) (omega arith) (omega (arith, few))) (omega arith) (omega (arith, few)))
+              kept-set _ _ w₀ three (driversAt + p) u
+              (kept-set _ _ w₀ two (depthsAt + p) d
+              (kept-set _ _ w₀ one (arrivalsAt late + p) f
+              (kept-set _ _ w₀ w (arrivalsAt early + p) e (s .kept) (omega arith) (omega (arith, few))) (omega arith) (omega (arith, few)))
+              (omega arith) (omega (arith, few)))
               (omega arith) (omega (arith, few));
         }
       where
         came : (g : Edge) (q : ℕ) → q < p + 1 → ClockPin t q → getD now (arrivalsAt g + q) 0 ≡ clockArrival g (structure t) (times t) q
         came early q m c = elim (ℕ-discrete q p) [
-          | yes z ↦
-              rw z
-              (getD-set-other two (6657 + p) (5889 + p) d 0 (λ y. omega arith) ∙ getD-set-other one (6145 + p) (5889 + p) f 0 (λ y. omega arith)
-              ∙ getD-set-same w (5889 + p) e 0 (omega (arith, few, room)) ∙ a .is-early (rw z at c))
+          | yes z ↦ rw z (stores .one ∙ a .is-early (rw z at c))
           | no z ↦
-              three-other w (5889 + p) (6145 + p) (6657 + p) e f d (5889 + q) (λ y. z (omega arith)) (λ y. omega (arith, few)) (λ y. omega (arith, few))
+              aside (arrivalsAt early + q) (λ y. z (omega arith)) (λ y. omega (arith, few)) (λ y. omega (arith, few)) (λ y. omega (arith, few))
               ∙ s .so-far .arrival early q (omega arith) c
         ]
         came late q m c = elim (ℕ-discrete q p) [
-          | yes z ↦
-              rw z
-              (getD-set-other two (6657 + p) (6145 + p) d 0 (λ y. omega arith) ∙ getD-set-same one (6145 + p) f 0 (rw length-set (omega (arith, few, room)))
-              ∙ a .is-late (rw z at c))
+          | yes z ↦ rw z (stores .two ∙ a .is-late (rw z at c))
           | no z ↦
-              three-other w (5889 + p) (6145 + p) (6657 + p) e f d (6145 + q) (λ y. omega (arith, few)) (λ y. z (omega arith)) (λ y. omega (arith, few))
+              aside (arrivalsAt late + q) (λ y. omega (arith, few)) (λ y. z (omega arith)) (λ y. omega (arith, few)) (λ y. omega (arith, few))
               ∙ s .so-far .arrival late q (omega arith) c
         ]
 
-        deep : (q : ℕ) → q < p + 1 → ClockPin t q → getD now (6657 + q) 0 ≡ length (climb (structure t) q)
+        deep : (q : ℕ) → q < p + 1 → ClockPin t q → getD now (depthsAt + q) 0 ≡ length (climb (structure t) q)
         deep q m c = elim (ℕ-discrete q p) [
-          | yes z ↦ rw z (getD-set-same two (6657 + p) d 0 (simp length-set (omega (arith, few, room))) ∙ a .is-depth (rw z at c))
+          | yes z ↦ rw z (stores .three ∙ a .is-depth (rw z at c))
           | no z ↦
-              three-other w (5889 + p) (6145 + p) (6657 + p) e f d (6657 + q) (λ y. omega (arith, few)) (λ y. omega (arith, few)) (λ y. z (omega arith))
+              aside (depthsAt + q) (λ y. omega (arith, few)) (λ y. omega (arith, few)) (λ y. z (omega arith)) (λ y. omega (arith, few))
               ∙ s .so-far .depth q (omega arith) c
+        ]
+
+        drove : (q : ℕ) → q < p + 1 → getD now (driversAt + q) 0 ≡ driverFor t q
+        drove q m = elim (ℕ-discrete q p) [
+          | yes z ↦ rw z (stores .four ∙ a .is-driver)
+          | no z ↦
+              aside (driversAt + q) (λ y. omega (arith, few)) (λ y. omega (arith, few)) (λ y. omega (arith, few)) (λ y. z (omega arith))
+              ∙ s .so-far .driver q (omega arith)
         ]
 
 pub going-end : (t : Table) (p : ℕ) (w₀ w : List ℕ) → Going t p w₀ w → pinCount t ≤ p → Clocked t w

@@ -2,4 +2,7 @@
 mod Turn
 mod Filling
 mod Meeting
+mod Basing
 mod Seeding
+mod Routing
+mod Handing

@@ -2,12 +2,10 @@
 use mathlib.Core.Path.{_≡_, refl, sym, _∙_}
 use mathlib.Core.Logic.{_≢_}
 use mathlib.Core.List.{List}
-use Prim.Native.Nat.{ℕ, zero, suc, _+_, _*_, _-_, _≤_, _<_}
-use native.Mathlib.Decide.{ℕ-discrete}
+use Prim.Native.Nat.{ℕ, zero, suc, _+_, _*_, _≤_, _<_}
 use native.Mathlib.Omega.{arith}
 use borrow.Author.Tests.{eq-eqb, ne-eqb}
-use lib.ListN.{getD, set}
-use lib.Seq.{getD-set-same, getD-set-other}
+use lib.ListN.{getD}
 use Rattle.lists.specs.Choice.{pick}
 use Rattle.timing.specs.Kinds.{K}
 use Rattle.timing.specs.Table.{Table, Edge, early, late, pinCount, testCount, periodOf, pinKind, pinTime, testClock, testData, testSetup, testHold}
@@ -15,14 +13,13 @@ use Rattle.timing.specs.Structure.{kind, clockPin, structure, times}
 use Rattle.timing.specs.Clock.{common, clockArrival, pinCredit}
 use Rattle.timing.specs.Slack.{Mode, forSetup, forHold, startArrival}
 use Rattle.timing.specs.Rows.{modeOf}
-use Rattle.timing.specs.Value.{creditFrom, seedOf, raise, lower}
+use Rattle.timing.specs.Value.{creditFrom, raise, lower}
 use Rattle.timing.specs.Laws.Columns.{tests-is, kind-is, clock-is, data-is}
 use Rattle.timing.specs.Laws.Accepted.{accepted}
-use Rattle.area.specs.Area.{Kept, seedsAt, creditsAt, arrivalsAt}
-use Rattle.clocks.specs.Clocked.{ClockPin, Clocked, Asks, seedFor, Seeded}
+use Rattle.area.specs.Area.{arrivalsAt}
+use Rattle.clocks.specs.Clocked.{Clocked}
 use Rattle.clocks.specs.Small.{few-pins, arrival-most}
 use Rattle.clocks.specs.Known.{test-clock, test-data}
-use Rattle.clocks.specs.Kept.{kept-none, kept-set, clocked-kept}
 
 -- ---- the mode: 0 is setup, any other hold
 
@@ -54,19 +51,6 @@ module _ (t : Table) (p : ℕ) (l : p < pinCount t) where
   unfolding startArrival pick times
   start-own e n = rw (ne-eqb (kind (structure t) p) K (λ k. n (sym (kind-is t p l) ∙ k)))
 
--- ---- a seed
-
-module _ (t : Table) (c p : ℕ) where
-  pub seed-setup : (h v a : ℕ) → h ≡ p * 1000000 → v ≡ creditFrom forSetup (structure t) (times t) c p → a ≡ startArrival late (structure t) (times t) p
-      → h + (256000000 + v - a) ≡ seedOf forSetup (λ q. q) (structure t) (times t) c p
-  unfolding seedOf
-  seed-setup h v a e f g = rw (e, f, g)
-
-  pub seed-hold : (v a : ℕ) → v ≡ creditFrom forHold (structure t) (times t) c p → a ≡ startArrival early (structure t) (times t) p
-      → a + v ≡ seedOf forHold (λ q. q) (structure t) (times t) c p
-  unfolding seedOf
-  seed-hold v a f g = rw (f, g)
-
 -- ---- a test
 
 module _ (t : Table) (w : List ℕ) (k : Clocked t w) (j : ℕ) (l : j < testCount t) where
@@ -96,7 +80,7 @@ module _ (t : Table) (w : List ℕ) (k : Clocked t w) (j : ℕ) (l : j < testCou
   unfolding times
   hold-most = accepted t (k .ready .checked) .ranged .hold-most j (rw (tests-is t) l)
 
-  pub raise-setup : (v q d : ℕ) → q ≡ testClock t j → v ≡ getD w (5889 + q) 0 → d ≡ periodOf t → v + d ≡ raise forSetup (structure t) (times t) j
+  pub raise-setup : (v q d : ℕ) → q ≡ testClock t j → v ≡ getD w (arrivalsAt early + q) 0 → d ≡ periodOf t → v + d ≡ raise forSetup (structure t) (times t) j
   unfolding raise times
   raise-setup v q d z e f = rw (e, f, test-arrival early q z)
 
@@ -108,43 +92,6 @@ module _ (t : Table) (w : List ℕ) (k : Clocked t w) (j : ℕ) (l : j < testCou
   unfolding lower times
   lower-setup v d e f = rw (e, f, data-is t j l)
 
-  pub lower-hold : (v q d : ℕ) → q ≡ testClock t j → v ≡ getD w (6145 + q) 0 → d ≡ testHold t j → v + d ≡ lower forHold (λ q. q) (structure t) (times t) j
+  pub lower-hold : (v q d : ℕ) → q ≡ testClock t j → v ≡ getD w (arrivalsAt late + q) 0 → d ≡ testHold t j → v + d ≡ lower forHold (λ q. q) (structure t) (times t) j
   unfolding lower times
   lower-hold v q d z e f = rw (e, f, test-arrival late q z)
-
--- ---- the seeds of a test
-
--- those of the pins below p are written
-pub record Seeding (m : Mode) (t : Table) (c p : ℕ) (w₀ w : List ℕ) : Type 0 where
-  pub clocked : Clocked t w₀
-  pub clock : ClockPin t c
-  pub most : p ≤ pinCount t
-  pub so-far : Seeded m t c p w
-  pub kept : Kept seedsAt creditsAt w₀ w
-
-pub seeding-none : (m : Mode) (t : Table) (c : ℕ) (w : List ℕ) → Clocked t w → ClockPin t c → Seeding m t c 0 w w
-seeding-none m t c w k h =
-    record { clocked = k; clock = h; most = omega arith; so-far = record { seed = λ q l. absurd (omega arith) }; kept = kept-none _ _ w }
-
-module _ (m : Mode) (t : Table) (c p : ℕ) (w₀ w : List ℕ) (s : Seeding m t c p w₀ w) (l : p < pinCount t) where
-  pub seeding-asks : Asks t w c p
-  seeding-asks = record { clocked = clocked-kept t seedsAt creditsAt w₀ w (omega arith) (s .kept) (s .clocked); clock = s .clock; inside = l }
-
-  pub seeding-step : (v : ℕ) → v ≡ seedFor m t c p → Seeding m t c (p + 1) w₀ (set w (5377 + p) v)
-  seeding-step v e =
-      let few : p < 256 = omega (arith, few-pins t (s .clocked .ready .checked)) in
-      record {
-        clocked = s .clocked;
-        clock = s .clock;
-        most = omega arith;
-        so-far = record {
-          seed = λ q g. elim (ℕ-discrete q p) [
-            | yes z ↦ rw z (getD-set-same w (5377 + p) v 0 (omega (arith, s .kept .long, s .clocked .ready .room)) ∙ e)
-            | no z ↦ getD-set-other w (5377 + p) (5377 + q) v 0 (λ y. z (omega arith)) ∙ s .so-far .seed q (omega arith)
-          ];
-        };
-        kept = kept-set _ _ w₀ w (5377 + p) v (s .kept) (omega arith) (omega arith);
-      }
-
-pub seeding-end : (m : Mode) (t : Table) (c p : ℕ) (w₀ w : List ℕ) → Seeding m t c p w₀ w → pinCount t ≤ p → Seeded m t c (pinCount t) w
-seeding-end m t c p w₀ w s l = let e : p ≡ pinCount t = omega (arith, s .most) in rw e at (s .so-far)

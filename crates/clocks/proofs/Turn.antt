@@ -1,5 +1,5 @@
 -- One turn of the pass over the pins: a step of the tree, and the kind that is read. Assumes nothing.
-use mathlib.Core.Path.{_≡_, sym}
+use mathlib.Core.Path.{_≡_, sym, _∙_}
 use mathlib.Core.Logic.{_⊎_, inl, inr, ⊎-elim, _≢_}
 use mathlib.Core.List.{List}
 use Prim.Native.Nat.{ℕ, _+_, _≤_, _<_}
@@ -7,15 +7,16 @@ use native.Mathlib.Decide.{ℕ-discrete}
 use native.Mathlib.Omega.{arith}
 use lib.ListN.{length, getD}
 use Rattle.timing.specs.Kinds.{R, B, K}
-use Rattle.timing.specs.Table.{Table, Edge, pinKind, arcFrom, arcTime}
+use Rattle.timing.specs.Table.{Table, Edge, pinCount, pinKind, arcFrom, arcTime}
 use Rattle.timing.specs.Structure.{structure, times}
 use Rattle.timing.specs.Clock.{climb, clockArrival}
 use Rattle.timing.specs.Laws.Columns.{kind-is}
 use Rattle.area.specs.Area.{arrivalsAt, parentsAt, depthsAt}
-use Rattle.clocks.specs.Clocked.{ClockPin}
+use Rattle.area.specs.Area as area
+use Rattle.clocks.specs.Clocked.{ClockPin, driverFor}
 use Rattle.clocks.specs.Turn.{NextDriven}
 use Rattle.clocks.specs.Small.{few-pins, arrival-most, depth-most}
-use Rattle.clocks.specs.Tree.{Driven, driven}
+use Rattle.clocks.specs.Tree.{Driven, driver-some, driver-none, driven}
 
 -- ---- a step of the tree, in the area
 
@@ -26,6 +27,7 @@ pub record Step (t : Table) (w : List ℕ) (p a from : ℕ) : Type 0 where
   pub most : (e : Edge) → getD w (arrivalsAt e + from) 0 + arcTime t e a ≤ 256000000
   pub deep : getD w (depthsAt + from) 0 + 1 ≡ length (climb (structure t) p)
   pub shallow : getD w (depthsAt + from) 0 < 255
+  pub drives : from ≡ driverFor t p
 
 pub step : (t : Table) (w : List ℕ) (p a from : ℕ) → NextDriven t p w → a ≡ getD w (parentsAt + p) 0 → from ≡ arcFrom t a → Step t w p a from
 step t w p a from n e f =
@@ -43,6 +45,7 @@ step t w p a from n e f =
       most = λ e. rw (came e) (arrival-most t h e p (s .inside));
       deep = deep;
       shallow = omega (arith, deep, depth-most t h p (s .inside));
+      drives = f ∙ sym (driver-some t p a (n .driven) d);
     }
 
 -- a pin whose kind is a number
@@ -61,3 +64,7 @@ up-to-K k n l = elim (ℕ-discrete k B) [ yes e ↦ inl e | no e ↦ inr (two k 
 -- no clock pin is behind K
 pub past-K : (t : Table) (p : ℕ) → K < pinKind t p → ClockPin t p → ⊥
 past-K t p l c = ⊎-elim (λ e. omega arith) (⊎-elim (λ e. omega arith) (λ e. omega arith)) (kind-cases t p c)
+
+-- nothing drives R, or a pin of the data side
+pub not-driven : (t : Table) (p : ℕ) → p < pinCount t → pinKind t p ≢ B → pinKind t p ≢ K → area.none ≡ driverFor t p
+not-driven t p l b k = sym (driver-none t p (λ e. b (sym (kind-is t p l) ∙ e)) (λ e. k (sym (kind-is t p l) ∙ e)))

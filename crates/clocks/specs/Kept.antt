@@ -2,16 +2,19 @@
 -- Assumes nothing.
 use mathlib.Core.Path.{_≡_, refl, sym, ap, _∙_}
 use mathlib.Core.List.{List}
+use mathlib.Core.Option.{none}
 use Prim.Native.Nat.{ℕ, _+_, _-_, _≤_, _<_, min}
 use native.Mathlib.Omega.{arith}
 use lib.ListN.{length, getD, set, take, drop, length-set, length-take, length-drop}
 use lib.Seq.{getD-set-other, getD-take, getD-drop, ext-getD}
 use Rattle.timing.specs.Table.{Table, Edge, early, late, pinCount}
 use Rattle.timing.specs.Structure.{enters, structure}
+use Rattle.timing.specs.Slack.{Mode}
+use Rattle.timing.specs.Check.{tableFault}
 use Rattle.timing.specs.Laws.Columns.{pins-is}
 use Rattle.timing.specs.Laws.Accepted.{accepted}
-use Rattle.area.specs.Area.{Kept, arrivalsAt, clocksAt, parentsAt, depthsAt, turnsAt}
-use Rattle.clocks.specs.Clocked.{Ready, Parented, ClockedTo, Clocked}
+use Rattle.area.specs.Area.{Kept, arrivalsAt, clocksAt, parentsAt, depthsAt, driversAt, basesAt, turnsAt}
+use Rattle.clocks.specs.Clocked.{Ready, Parented, ClockedTo, Clocked, Based}
 
 -- ---- any parts
 
@@ -56,9 +59,9 @@ module _ (a e : ℕ) (w v : List ℕ) (k : Kept a e w v) where
       ext-getD 0 (drop n v) (drop n w) (simp length-drop (omega (arith, k .long)))
       (λ i l. getD-drop n v i 0 ∙ k .back (n + i) (omega arith) ∙ sym (getD-drop n w i 0))
 
--- ---- what the clock side has written stays where the area stays from place 5,889 on
+-- ---- the clock tree stays where its parts stay
 
-module _ (t : Table) (w v : List ℕ) (long : length v ≡ length w) (same : (i : ℕ) → clocksAt ≤ i → i < turnsAt → getD v i 0 ≡ getD w i 0) (r : Ready t w) where
+module _ (t : Table) (w v : List ℕ) (long : length v ≡ length w) (same : (i : ℕ) → clocksAt ≤ i → i < basesAt → getD v i 0 ≡ getD w i 0) (r : Ready t w) where
   few : pinCount t ≤ 256
   few = accepted t (r .checked) .header .few-pins
 
@@ -78,21 +81,31 @@ module _ (t : Table) (w v : List ℕ) (long : length v ≡ length w) (same : (i 
       record {
         arrival = λ e p l k. came e p l ∙ h .arrival e p l k;
         depth = λ p l k. same (depthsAt + p) (omega arith) (omega (arith, few)) ∙ h .depth p l k;
+        driver = λ p l. same (driversAt + p) (omega arith) (omega (arith, few)) ∙ h .driver p l;
       }
     where
       came : (e : Edge) (p : ℕ) → p < pinCount t → getD v (arrivalsAt e + p) 0 ≡ getD w (arrivalsAt e + p) 0
-      came early p l = same (5889 + p) (omega arith) (omega (arith, few))
-      came late p l = same (6145 + p) (omega arith) (omega (arith, few))
+      came early p l = same (arrivalsAt early + p) (omega arith) (omega (arith, few))
+      came late p l = same (arrivalsAt late + p) (omega arith) (omega (arith, few))
 
 -- place by place
-pub clocked-same : (t : Table) (w v : List ℕ) → length v ≡ length w → ((i : ℕ) → clocksAt ≤ i → i < turnsAt → getD v i 0 ≡ getD w i 0)
+pub tree-same : (t : Table) (w v : List ℕ) → length v ≡ length w → ((i : ℕ) → clocksAt ≤ i → i < basesAt → getD v i 0 ≡ getD w i 0)
     → Clocked t w → Clocked t v
-clocked-same t w v long same h =
+tree-same t w v long same h =
     record {
       ready = stays-ready t w v long same (h .ready);
       parents = stays-parents t w v long same (h .ready) (h .parents);
       pins = stays-pins t w v long same (h .ready) (h .pins);
     }
+
+-- with the bases
+pub clocked-same : (t : Table) (w v : List ℕ) → length v ≡ length w → ((i : ℕ) → clocksAt ≤ i → i < turnsAt → getD v i 0 ≡ getD w i 0)
+    → Clocked t w → Clocked t v
+clocked-same t w v long same h = tree-same t w v long (λ i l m. same i l (omega arith)) h
+
+-- after a write behind it, of the bases or of what follows
+pub clocked-behind : (t : Table) (a e : ℕ) (w v : List ℕ) → basesAt ≤ a → Kept a e w v → Clocked t w → Clocked t v
+clocked-behind t a e w v h k c = tree-same t w v (k .long) (λ i l m. k .front i (omega arith)) c
 
 -- after a write before it
 pub clocked-kept : (t : Table) (a e : ℕ) (w v : List ℕ) → e ≤ clocksAt → Kept a e w v → Clocked t w → Clocked t v
@@ -108,3 +121,14 @@ clocked-drop t w v long e c = clocked-same t w v long (λ i h l. there i h) c
         ap (λ (j : ℕ). getD v j 0) (sym q) ∙ sym (getD-drop clocksAt v (i - clocksAt) 0)
         ∙ ap (λ (l : List ℕ). getD l (i - clocksAt) 0) e
         ∙ getD-drop clocksAt w (i - clocksAt) 0 ∙ ap (λ (j : ℕ). getD w j 0) q
+
+-- ---- the bases stay where their part stays
+
+pub based-same : (m : Mode) (t : Table) (w v : List ℕ) → tableFault t ≡ none → ((i : ℕ) → basesAt ≤ i → i < turnsAt → getD v i 0 ≡ getD w i 0)
+    → Based m t w → Based m t v
+based-same m t w v h same b =
+    record { base = λ p l. same (basesAt + p) (omega arith) (omega (arith, accepted t h .header .few-pins)) ∙ b .base p l }
+
+-- after a write before it
+pub based-kept : (m : Mode) (t : Table) (a e : ℕ) (w v : List ℕ) → tableFault t ≡ none → e ≤ basesAt → Kept a e w v → Based m t w → Based m t v
+based-kept m t a e w v h l k b = based-same m t w v h (λ i g n. k .back i (omega arith)) b

@@ -6,7 +6,7 @@ use mathlib.Core.Path.{_≡_, refl, ap}
 use mathlib.Core.Logic.{inr}
 use mathlib.Core.Bool.{Bool, true, false}
 use mathlib.Core.Option.{none}
-use Prim.Native.Nat.{ℕ, _-_, _≤_, _<_}
+use Prim.Native.Nat.{ℕ, _≤_, _<_}
 use native.Mathlib.Omega.{arith}
 use borrow.Author.Tests.{eqb-true}
 use lib.Dec.{eqb}
@@ -78,15 +78,18 @@ module _ (t : Table) (h : tableFault t ≡ none) where
       let y = climb-split s ok (common s p c) p m (on .0) in
       omega (arith, ap length (y .meets), length-append (y .front) (climb s (common s p c)), depth-most p (kp .inside))
 
+  -- its credit
+  pub common-most : (p c : ℕ) → ClockPin t p → ClockPin t c → pinCredit (structure t) (times t) (common (structure t) p c) ≤ 256000000
+  unfolding pinCredit
+  common-most p c kp kc = omega (arith, short-late (common (structure t) p c) (common-short p c kp kc))
+
   pub credit-most : (m : Mode) (c p : ℕ) → ClockPin t c → p < pinCount t → creditFrom m (structure t) (times t) c p ≤ 256000000
-  unfolding creditFrom pinCredit pick
+  unfolding creditFrom pick
   credit-most m c p kc l = go (eqb (kind (structure t) p) K) refl
     where
       go : (b : Bool) → eqb (kind (structure t) p) K ≡ b
-          → pick b (clockArrival late (structure t) (times t) (common (structure t) p c) - clockArrival early (structure t) (times t) (common (structure t) p c)) 0 ≤ 256000000
-      go true e =
-          let kp : ClockPin t p = record { inside = l; clock = inr (inr (eqb-true _ _ e)) } in
-          omega (arith, short-late (common (structure t) p c) (common-short p c kp kc))
+          → pick b (pinCredit (structure t) (times t) (common (structure t) p c)) 0 ≤ 256000000
+      go true e = common-most p c (record { inside = l; clock = inr (inr (eqb-true _ _ e)) }) kc
       go false e = omega arith
 
   pub start-most : (e : Edge) (p : ℕ) → p < pinCount t → startArrival e (structure t) (times t) p ≤ 256000000

@@ -1,14 +1,16 @@
 -- The clock tree of a checked table, arc by arc: the arc that the area has for a B or a K is the one that comes into it, and adds its delay to the arrivals
--- and one to the depth; R has its own arrivals.
+-- and one to the depth; its driver is the pin that this arc leaves. R has its own arrivals, and no driver; nor has a pin of the data side.
 -- Assumes nothing.
 use mathlib.Core.Path.{_≡_, sym, ap, _∙_}
-use mathlib.Core.Logic.{_⊎_, inl, inr, ⊎-elim}
+use mathlib.Core.Logic.{_⊎_, inl, inr, ⊎-elim, _≢_}
 use mathlib.Core.List.{List, [], _∷_}
 use mathlib.Core.Option.{none}
 use Prim.Native.Nat.{ℕ, _+_, _<_}
 use native.Mathlib.Omega.{arith}
 use native.Mathlib.Numerals.{add-one}
+use borrow.Author.Tests.{ne-eqb}
 use lib.ListN.{length, getD}
+use Rattle.lists.specs.Choice.{pick}
 use Rattle.timing.specs.Kinds.{R, B, K}
 use Rattle.timing.specs.Table.{Table, Edge, pinCount, arcCount, pinKind, pinTime, arcFrom, arcTo, arcTime}
 use Rattle.timing.specs.Structure.{arcs, kind, leaves, enters, structure, times}
@@ -21,7 +23,8 @@ use Rattle.timing.specs.Laws.Ranged.{clock-root, clock-step}
 use Rattle.timing.specs.Laws.Columns.{pins-is, arcs-is, kind-is, leaves-is, enters-is}
 use Rattle.timing.specs.Laws.Accepted.{accepted, accepted-level}
 use Rattle.area.specs.Area.{parentsAt}
-use Rattle.clocks.specs.Clocked.{ClockPin, Parented}
+use Rattle.area.specs.Area as area
+use Rattle.clocks.specs.Clocked.{ClockPin, Parented, driverFor}
 use Rattle.clocks.specs.Small.{pin-place}
 
 -- arc a comes into p, a B or a K, from another clock pin: one step of the tree
@@ -33,6 +36,21 @@ pub record Driven (t : Table) (p a : ℕ) : Type 0 where
   pub clock : ClockPin t (arcFrom t a)
   pub arrival : (e : Edge) → clockArrival e (structure t) (times t) p ≡ clockArrival e (structure t) (times t) (arcFrom t a) + arcTime t e a
   pub depth : length (climb (structure t) p) ≡ length (climb (structure t) (arcFrom t a)) + 1
+
+-- ---- drivers
+
+-- the driver of a B or a K
+pub driver-some : (t : Table) (p a : ℕ) → (kind (structure t) p ≡ B) ⊎ (kind (structure t) p ≡ K) → Driven t p a → driverFor t p ≡ arcFrom t a
+unfolding driverFor pick
+driver-some t p a (inl e) d = rw (e, d .into-is) (d .from)
+driver-some t p a (inr e) d = rw (e, d .into-is) (d .from)
+
+-- nothing drives another
+pub driver-none : (t : Table) (p : ℕ) → kind (structure t) p ≢ B → kind (structure t) p ≢ K → driverFor t p ≡ area.none
+unfolding driverFor pick
+driver-none t p b k = rw (ne-eqb (kind (structure t) p) B b, ne-eqb (kind (structure t) p) K k)
+
+-- ---- the tree
 
 module _ (t : Table) (h : tableFault t ≡ none) where
   -- every arc rises

@@ -9,8 +9,8 @@ use Rattle.timing.specs.Kinds.{B, K}
 use Rattle.timing.specs.Table.{Table, early, late, pinCount}
 use Rattle.timing.specs.Structure.{kind, structure, times}
 use Rattle.timing.specs.Clock.{climb, clockArrival}
-use Rattle.area.specs.Area.{arrivalsAt, depthsAt}
-use Rattle.clocks.specs.Clocked.{Ready, ClockPin, Parented, ClockedTo}
+use Rattle.area.specs.Area.{arrivalsAt, depthsAt, driversAt}
+use Rattle.clocks.specs.Clocked.{Ready, ClockPin, Parented, ClockedTo, driverFor}
 
 -- parents are known, the pins below p are done, and p is next
 pub record Next (t : Table) (p : ℕ) (w : List ℕ) : Type 0 where
@@ -24,12 +24,13 @@ pub record NextDriven (t : Table) (p : ℕ) (w : List ℕ) : Type 0 where
   pub next : Next t p w
   pub driven : (kind (structure t) p ≡ B) ⊎ (kind (structure t) p ≡ K)
 
--- the numbers of one pin, where it is of the clock tree
-pub record Arrives (t : Table) (p e l d : ℕ) : Type 0 where
+-- the numbers of one pin, the first three where it is of the clock tree
+pub record Arrives (t : Table) (p e l d u : ℕ) : Type 0 where
   pub is-early : ClockPin t p → e ≡ clockArrival early (structure t) (times t) p
   pub is-late : ClockPin t p → l ≡ clockArrival late (structure t) (times t) p
   pub is-depth : ClockPin t p → d ≡ length (climb (structure t) p)
+  pub is-driver : u ≡ driverFor t p
 
--- the area with the numbers of pin p at its three places
-abbrev pub withClocking : List ℕ → ℕ → ℕ → ℕ → ℕ → List ℕ
-withClocking w p e l d = set (set (set w (arrivalsAt early + p) e) (arrivalsAt late + p) l) (depthsAt + p) d
+-- the area with the numbers of pin p at its four places
+abbrev pub withClocking : List ℕ → ℕ → ℕ → ℕ → ℕ → ℕ → List ℕ
+withClocking w p e l d u = set (set (set (set w (arrivalsAt early + p) e) (arrivalsAt late + p) l) (depthsAt + p) d) (driversAt + p) u

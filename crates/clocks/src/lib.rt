@@ -1,5 +1,5 @@
-// The clock side of a checked table, in a lent work area: arrivals, parents and depths of the clock tree; the common pin and its credit; what each start brings
-// to a test. All times are in picoseconds.
+// The clock side of a checked table, in a lent work area: arrivals, parents, depths and drivers of the clock tree; the common pin and its credit; what each
+// start brings to a test. All times are in picoseconds.
 use timing::Design;
 use timing::Kind;
 ghost use mathlib.Core.Path.{_≡_};
@@ -7,11 +7,12 @@ ghost use Prim.Native.Nat.{_+_, _<_};
 ghost use lib.ListN.{length, getD, set};
 ghost use Rattle.timing.specs.Table.{pinCount, arcFrom};
 ghost use Rattle.timing.specs.Structure.{structure, times};
-ghost use Rattle.timing.specs.Slack.{startArrival};
+ghost use Rattle.timing.specs.Slack.{Mode, startArrival};
 ghost use Rattle.timing.specs.Rows.{modeOf};
 ghost use Rattle.timing.specs.Value.{raise, lower};
-ghost use Rattle.area.specs.Area.{Kept, seedsAt, creditsAt, clocksAt, parentsAt, depthsAt, turnsAt};
-ghost use Rattle.clocks.specs.Clocked.{Ready, ClockPin, Parented, Clocked, Two, Asks, Starts, Tested, Common, Spans, Credited, Seed, creditIn, launched, seedFor, Seeded};
+ghost use Rattle.area.specs.Area.{Kept, seedsAt, creditsAt, clocksAt, parentsAt, depthsAt, driversAt, basesAt, turnsAt, none};
+ghost use Rattle.clocks.specs.Clocked.{Ready, ClockPin, Parented, Clocked, Two, Asks, Starts, Tested, Common, Spans, Credited, creditIn, launched, baseFor, Based, seedWith, Seeded};
+ghost use Rattle.clocks.specs.Route.{Unmarked, Marked, NextSeed, creditDown, withSeed};
 ghost use Rattle.clocks.specs.Turn.{Next, NextDriven, Arrives, withClocking};
 
 // No clock arrival is later.
@@ -71,17 +72,18 @@ fn parent(table: &[u32], work: &[u64], p: usize) -> usize
     tables::of_arc(table, 0, count(at(work, area::PARENTS, p)))
 }
 
-// When the clock comes to a pin, and over how many arcs.
+// When the clock comes to a pin, over how many arcs, and from which pin.
 struct Clocking {
     early: u64,
     late: u64,
     depth: u64,
+    driver: u64,
 }
 
 // The clocking of a B or a K: the arrivals of the pin that drives it and the delay of the arc between.
 fn driven(table: &[u32], work: &[u64], p: usize) -> Clocking
     requires { ⌜ NextDriven (now table) p (now work) ⌝ }
-    ensures { λ r. ⌜ Arrives (now (table .entry)) p (r .early) (r .late) (r .depth) ⌝ }
+    ensures { λ r. ⌜ Arrives (now (table .entry)) p (r .early) (r .late) (r .depth) (r .driver) ⌝ }
 {
     let a = count(at(work, area::PARENTS, p));
     let from = tables::of_arc(table, 0, a);
@@ -89,14 +91,15 @@ fn driven(table: &[u32], work: &[u64], p: usize) -> Clocking
         early: at(work, area::EARLY, from) + word(tables::of_arc(table, 2, a)),
         late: at(work, area::LATE, from) + word(tables::of_arc(table, 3, a)),
         depth: at(work, area::DEPTHS, from) + 1,
+        driver: word(from),
     }
 }
 
-// The clocking of pin p, next in ascending order: R has its own arrivals; R apart, the kinds up to K are B and K. A pin of the data side has none, and gets
-// zeros.
+// The clocking of pin p, next in ascending order: R has its own arrivals and no driver; R apart, the kinds up to K are B and K. A pin of the data side has no
+// arrivals, gets zeros for them, and has no driver.
 fn clocking_of(table: &[u32], work: &[u64], p: usize) -> Clocking
     requires { ⌜ Next (now table) p (now work) ⌝ }
-    ensures { λ r. ⌜ Arrives (now (table .entry)) p (r .early) (r .late) (r .depth) ⌝ }
+    ensures { λ r. ⌜ Arrives (now (table .entry)) p (r .early) (r .late) (r .depth) (r .driver) ⌝ }
 {
     let kind = tables::of_pin(table, 0, p);
     if kind == Kind::R {
@@ -104,6 +107,7 @@ fn clocking_of(table: &[u32], work: &[u64], p: usize) -> Clocking
             early: word(tables::of_pin(table, 1, p)),
             late: word(tables::of_pin(table, 2, p)),
             depth: 0,
+            driver: area::NONE,
         };
     }
     if kind <= Kind::K {
@@ -113,20 +117,22 @@ fn clocking_of(table: &[u32], work: &[u64], p: usize) -> Clocking
         early: 0,
         late: 0,
         depth: 0,
+        driver: area::NONE,
     }
 }
 
-// The clocking of pin p goes to its three places.
+// The clocking of pin p goes to its four places.
 fn put_clocking(work: &mut [u64], p: usize, c: Clocking)
-    requires { ⌜ depthsAt + p < length (now work) ⌝ }
-    ensures { λ _. ⌜ now (work .exit) ≡ withClocking (now (work .entry)) p (c .early) (c .late) (c .depth) ⌝ }
+    requires { ⌜ driversAt + p < length (now work) ⌝ }
+    ensures { λ _. ⌜ now (work .exit) ≡ withClocking (now (work .entry)) p (c .early) (c .late) (c .depth) (c .driver) ⌝ }
 {
     put(work, area::EARLY, p, c.early);
     put(work, area::LATE, p, c.late);
     put(work, area::DEPTHS, p, c.depth);
+    put(work, area::DRIVERS, p, c.driver);
 }
 
-// Arrivals and depth of each clock pin, the pins ascending: every arc rises, so a pin comes after the pin that drives it.
+// Arrivals, depth and driver of each clock pin, the pins ascending: every arc rises, so a pin comes after the pin that drives it.
 pub fn arrivals(table: &[u32], work: &mut [u64])
     requires { ⌜ Ready (now table) (now work) × Parented (now table) (now work) ⌝ }
     ensures { λ _. ⌜ Clocked (now (table .entry)) (now (work .exit)) × Kept clocksAt turnsAt (now (work .entry)) (now (work .exit)) ⌝ }
@@ -140,7 +146,7 @@ pub fn arrivals(table: &[u32], work: &mut [u64])
     }
 }
 
-// The clock side of a table: parents, arrivals and depths. What stands in the area before and behind them stays.
+// The clock side of a table: parents, arrivals, depths and drivers. What stands in the area before and behind them stays.
 pub fn clocks(table: &[u32], work: &mut [u64])
     requires { ⌜ Ready (now table) (now work) ⌝ }
     ensures { λ _. ⌜ Clocked (now (table .entry)) (now (work .exit)) × Kept clocksAt turnsAt (now (work .entry)) (now (work .exit)) ⌝ }
@@ -191,7 +197,7 @@ pub fn credit_from(table: &[u32], work: &[u64], c: usize, p: usize) -> u64
     }
 }
 
-// ---- what a start brings, and what is common to the paths of a test
+// ---- what a start brings before credit
 
 // The arrival of start p that counts in the mode (0 setup: late; else hold: early): a K's clock arrival, an I's own.
 fn start_arrival(table: &[u32], mode: u32, work: &[u64], p: usize) -> u64
@@ -210,48 +216,124 @@ fn start_arrival(table: &[u32], mode: u32, work: &[u64], p: usize) -> u64
     word(tables::of_pin(table, 1, p))
 }
 
-// The seed of pin p for a test with the clock pin c: in hold its arrival and its credit; in setup values count down from a height that grows with the
-// pin's number.
-pub fn seed_at(table: &[u32], mode: u32, work: &[u64], c: usize, p: usize) -> u64
-    requires { ⌜ Asks (now table) (now work) c p ⌝ }
-    ensures { λ r. ⌜ Seed (modeOf mode) (now (table .entry)) c p r ⌝ }
-{
-    let credit = credit_from(table, work, c, p);
-    let arrival = start_arrival(table, mode, work, p);
-    if mode == 0 {
-        word(p * Design::DELAY) + (BASE + credit - arrival)
-    } else {
-        arrival + credit
-    }
-}
-
-// The seed of a K or an I, no start at any other pin.
-fn seed_for(table: &[u32], mode: u32, work: &[u64], c: usize, p: usize) -> u64
-    requires { ⌜ Asks (now table) (now work) c p ⌝ }
-    ensures { λ r. ⌜ r ≡ seedFor (modeOf mode) (now (table .entry)) c p ⌝ }
+// What pin p brings before credit, where it is a start, a K or an I: in hold its arrival; in setup values count down from a height that grows with the pin's
+// number. NONE at any other pin.
+fn base_of(table: &[u32], mode: u32, work: &[u64], p: usize) -> u64
+    requires { ⌜ Starts (now table) (now work) p ⌝ }
+    ensures { λ r. ⌜ r ≡ baseFor (modeOf mode) (now (table .entry)) p ⌝ }
 {
     let kind = tables::of_pin(table, 0, p);
     let start = (kind == Kind::K) | (kind == Kind::I);
     if start {
-        seed_at(table, mode, work, c, p)
+        let arrival = start_arrival(table, mode, work, p);
+        if mode == 0 {
+            word(p * Design::DELAY) + (BASE - arrival)
+        } else {
+            arrival
+        }
     } else {
         area::NONE
     }
 }
 
-// The seeds of a test with the clock pin c, one for each pin.
-pub fn seeds(table: &[u32], mode: u32, work: &mut [u64], c: usize)
-    requires { ⌜ Clocked (now table) (now work) × ClockPin (now table) c ⌝ }
-    ensures { λ _. ⌜ Seeded (modeOf mode) (now (table .entry)) c (pinCount (now (table .entry))) (now (work .exit)) × Kept seedsAt creditsAt (now (work .entry)) (now (work .exit)) ⌝ }
+// The bases of a mode, one for each pin. They serve the seeds of every test.
+pub fn bases(table: &[u32], mode: u32, work: &mut [u64])
+    requires { ⌜ Clocked (now table) (now work) ⌝ }
+    ensures { λ _. ⌜ Based (modeOf mode) (now (table .entry)) (now (work .exit)) × Kept basesAt turnsAt (now (work .entry)) (now (work .exit)) ⌝ }
 {
     let n = tables::pin_count(table);
     let mut p = 0;
     while p < n {
-        let seed = seed_for(table, mode, work, c, p);
-        put(work, area::SEEDS, p, seed);
+        let base = base_of(table, mode, work, p);
+        put(work, area::BASES, p, base);
         p += 1;
     }
 }
+
+// ---- the seeds of a test, by the route of its clock
+
+// No pin has a credit against the test's clock yet.
+fn no_credits(table: &[u32], work: &mut [u64])
+    requires { ⌜ Ready (now table) (now work) ⌝ }
+    ensures { λ _. ⌜ Unmarked (now (table .entry)) (now (work .exit)) × Kept creditsAt clocksAt (now (work .entry)) (now (work .exit)) ⌝ }
+{
+    let n = tables::pin_count(table);
+    let mut p = 0;
+    while p < n {
+        put(work, area::CREDITS, p, area::NONE);
+        p += 1;
+    }
+}
+
+// Each pin on the way from clock pin c up to R has its own credit, any other pin none.
+fn mark_route(table: &[u32], work: &mut [u64], c: usize)
+    requires { ⌜ Clocked (now table) (now work) × ClockPin (now table) c ⌝ }
+    ensures { λ _. ⌜ Marked (now (table .entry)) c (now (work .exit)) × Kept creditsAt clocksAt (now (work .entry)) (now (work .exit)) ⌝ }
+{
+    no_credits(table, work);
+    let mut pin = word(c);
+    while pin < area::NONE {
+        let v = count(pin);
+        let credit = credit_at(work, v);
+        put(work, area::CREDITS, v, credit);
+        pin = at(work, area::DRIVERS, v);
+    }
+}
+
+// The credit of clock pin p against the test's clock: its own if it is on the route, else that of the pin that drives it.
+fn credit_down(work: &[u64], p: usize, driver: usize) -> u64
+    requires { ⌜ (creditsAt + p < length (now work)) × (creditsAt + driver < length (now work)) ⌝ }
+    ensures { λ r. ⌜ r ≡ creditDown (now (work .entry)) p driver ⌝ }
+{
+    let own = at(work, area::CREDITS, p);
+    if own < area::NONE {
+        return own;
+    }
+    at(work, area::CREDITS, driver)
+}
+
+// The seed of a base and a credit: NONE where there is no base.
+fn seed_with(base: u64, credit: u64) -> u64
+    requires { ⌜ credit < none ⌝ }
+    ensures { λ r. ⌜ r ≡ seedWith base credit ⌝ }
+{
+    if base < area::NONE {
+        return base + credit;
+    }
+    area::NONE
+}
+
+// The seed of pin p, next in ascending order, and where a pin drives it its credit. The credit of a start that nothing drives, an I, is 0.
+fn lay_seed(work: &mut [u64], p: usize)
+    requires { ⌜ NextSeed (now work) p ⌝ }
+    ensures { λ _. ⌜ now (work .exit) ≡ withSeed (now (work .entry)) p ⌝ }
+{
+    let driver = at(work, area::DRIVERS, p);
+    let base = at(work, area::BASES, p);
+    if driver < area::NONE {
+        let credit = credit_down(work, p, count(driver));
+        put(work, area::CREDITS, p, credit);
+        put(work, area::SEEDS, p, seed_with(base, credit));
+    } else {
+        put(work, area::SEEDS, p, base);
+    }
+}
+
+// The seeds of a test with the clock pin c, one for each pin, in the mode of the bases.
+pub fn seeds(table: &[u32], work: &mut [u64], c: usize)
+    requires { ⌜ Clocked (now table) (now work) × ClockPin (now table) c ⌝ }
+    ensures { λ _. ⌜ ((m : Mode) → Based m (now (table .entry)) (now (work .entry)) → Seeded m (now (table .entry)) c (pinCount (now (table .entry))) (now (work .exit))) × Kept seedsAt clocksAt (now (work .entry)) (now (work .exit)) ⌝ }
+{
+    mark_route(table, work, c);
+    let n = tables::pin_count(table);
+    let mut p = 0;
+    while p < n {
+        lay_seed(work, p);
+        p += 1;
+    }
+}
+
+// ---- what is common to the paths of a test
 
 // What is added to the value of a path of test j: in setup the early arrival of its clock and the period.
 pub fn raise_of(table: &[u32], mode: u32, work: &[u64], j: usize) -> u64

@@ -34,7 +34,7 @@ loop-less c = search needs
 loop-again : tie.Need-loop-again Inv-loop μ-loop
 loop-again c =
     let l = c .before .before .before .before .before .before .before .loop in
-    rw (c .before .before .put-clocking .ensures) (going-step _ (l .p) _ _ (l .inv) (omega arith) _ _ _ (c .before .before .before .before .clocking-of .ensures))
+    rw (c .before .before .put-clocking .ensures) (going-step _ (l .p) _ _ (l .inv) (omega arith) _ _ _ _ (c .before .before .before .before .clocking-of .ensures))
 
 same-length : tie.Need-same-length Inv-loop μ-loop
 same-length c = search needs

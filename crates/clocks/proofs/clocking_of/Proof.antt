@@ -1,11 +1,13 @@
 -- `clocks::clocking_of` meets its contract, by the kind of the pin. Assumes nothing.
 use mathlib.Core.Path.{_≡_, sym, _∙_}
 use borrow.Author.Needs.{needs}
-use Rattle.timing.specs.Kinds.{R}
+use Prim.Native.Nat.{_<_}
+use native.Mathlib.Omega.{arith}
+use Rattle.timing.specs.Kinds.{R, K}
 use Rattle.timing.specs.Table.{early, late, pinKind}
 use Rattle.timing.specs.Laws.Columns.{kind-is}
 use Rattle.clocks.specs.Tree.{root-times, root-depth}
-use Rattle.clocks.proofs.Turn.{up-to-K, past-K}
+use Rattle.clocks.proofs.Turn.{up-to-K, past-K, not-driven}
 use Rattle.clocks.proofs.clocking_of.Statement.{statement}
 use Rattle.clocks.proofs.clocking_of.Tie as tie
 
@@ -36,6 +38,7 @@ returns c =
       is-early = λ _. c .before .before .word .ensures ∙ c .before .before .before .of-pin2 .ensures ∙ sym (root-times t h early p l k);
       is-late = λ _. c .word2 .ensures ∙ c .before .of-pin3 .ensures ∙ sym (root-times t h late p l k);
       is-depth = λ _. sym (root-depth t h p l k);
+      is-driver = not-driven t p l (λ e. omega arith) (λ e. omega arith);
     }
 
 driven-requires : tie.Need-driven-requires
@@ -51,8 +54,15 @@ returns-2 c = search needs
 returns-3 : tie.Need-returns-3
 returns-3 c =
     let s = c .before .before .before .before .before in
-    let no-clock = past-K (s .args .table .now) (s .args .p) (rw (c .before .before .of-pin .ensures) at (c .if2 .left)) in
-    record { is-early = λ k. absurd (no-clock k); is-late = λ k. absurd (no-clock k); is-depth = λ k. absurd (no-clock k) }
+    let t = s .args .table .now in
+    let p = s .args .p in
+    let past : K < pinKind t p = rw (c .before .before .of-pin .ensures) at (c .if2 .left) in
+    record {
+      is-early = λ k. absurd (past-K t p past k);
+      is-late = λ k. absurd (past-K t p past k);
+      is-depth = λ k. absurd (past-K t p past k);
+      is-driver = not-driven t p (s .pre .inside) (λ e. omega arith) (λ e. omega arith);
+    }
 
 pub clocking-of-spec : {M : Type 1} → statement M
 clocking-of-spec =

@@ -3,6 +3,7 @@ use mathlib.Core.Path.{refl}
 use Prim.Native.Nat.{_+_}
 use native.Mathlib.Omega.{arith}
 use lib.ListN.{getD}
+use Rattle.area.specs.Area.{depthsAt}
 use Rattle.clocks.specs.Small.{few-pins}
 use Rattle.clocks.proofs.Meeting.{Climbing, Raised, raise-one, raise-other, met}
 use Rattle.clocks.proofs.common_pin.Statement.{statement}
@@ -12,7 +13,7 @@ abbrev Inv-loop : tie.InvT-loop
 Inv-loop table work p q a₀ b₀ a b = Climbing table work p q a b
 
 abbrev μ-loop : tie.MeasureT-loop
-μ-loop table work p q a₀ b₀ a b = getD work (6657 + a) 0 + getD work (6657 + b) 0
+μ-loop table work p q a₀ b₀ a b = getD work (depthsAt + a) 0 + getD work (depthsAt + b) 0
 
 loop-holds : tie.Need-loop-holds Inv-loop μ-loop
 loop-holds c = let s = c .before .before in record { clocked = s .pre .clocked; one = s .pre .one; other = s .pre .other; same = refl }

@@ -52,13 +52,18 @@ at-requires-4 c κs = omega (arith, known (c .before .before .before .before .be
 add-t15 : tie.Need-add-t15
 add-t15 c = omega (arith, c .at4 .ensures, known (c .before .before .before .before .before .before .before) .shallow)
 
+word-requires-3 : tie.Need-word-requires-3
+word-requires-3 c κs = search needs
+
 returns : tie.Need-returns
 returns c =
-    let s = known (c .before .before .before .before .before .before .before) in
+    let b = c .before in
+    let s = known (b .before .before .before .before .before .before .before) in
     record {
-      is-early = λ _. omega (arith, c .before .before .before .before .before .before .at2 .ensures, c .before .before .before .before .word .ensures, c .before .before .before .before .before .of-arc2 .ensures, s .came early);
-      is-late = λ _. omega (arith, c .before .before .before .at3 .ensures, c .before .word2 .ensures, c .before .before .of-arc3 .ensures, s .came late);
-      is-depth = λ _. omega (arith, c .at4 .ensures, s .deep);
+      is-early = λ _. omega (arith, b .before .before .before .before .before .before .at2 .ensures, b .before .before .before .before .word .ensures, b .before .before .before .before .before .of-arc2 .ensures, s .came early);
+      is-late = λ _. omega (arith, b .before .before .before .at3 .ensures, b .before .word2 .ensures, b .before .before .of-arc3 .ensures, s .came late);
+      is-depth = λ _. omega (arith, b .at4 .ensures, s .deep);
+      is-driver = c .word3 .ensures ∙ s .drives;
     }
 
 pub driven-spec : {M : Type 1} → statement M
@@ -78,4 +83,5 @@ driven-spec =
     add-t13
     at-requires-4
     add-t15
+    word-requires-3
     returns)
