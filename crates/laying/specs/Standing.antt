@@ -8,7 +8,7 @@ use Rattle.timing.specs.Table.{Table, testCount}
 use Rattle.timing.specs.Structure.{structure, times, clockPin}
 use Rattle.timing.specs.Rows.{modeOf}
 use Rattle.timing.specs.Value.{seedOf}
-use Rattle.clocks.specs.Clocked.{Clocked}
+use Rattle.clocks.specs.Clocked.{Clocked, Based}
 use Rattle.area.specs.Area.{plan, arcsAt}
 use Rattle.engine.specs.Laid.{Arcs, Laid}
 use Rattle.engine.specs.Sorting.{weighing}
@@ -22,9 +22,10 @@ level p = p
 abbrev pub testSeed : Table → ℕ → ℕ → ℕ → ℕ
 testSeed t mode j = seedOf (modeOf mode) level (structure t) (times t) (clockPin (structure t) j)
 
--- the clock side is known, and the arcs stand sorted with their weights
+-- the clock side is known, and what each start brings before credit, and the arcs stand sorted with their weights
 pub record Prepared (t : Table) (mode : ℕ) (w : List ℕ) : Type 0 where
   pub clocked : Clocked t w
+  pub based : Based (modeOf mode) t w
   pub by-arcs : Arcs (structure t) (weighing t mode) (plan w)
 
 -- and the seeds are those of test j

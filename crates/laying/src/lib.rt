@@ -14,7 +14,7 @@ ghost use Rattle.timing.specs.Structure.{structure};
 ghost use Rattle.timing.specs.Rows.{total};
 ghost use Rattle.clocks.specs.Clocked.{Clocked, Tested};
 ghost use Rattle.clocks.specs.Clocked as clocked;
-ghost use Rattle.area.specs.Area.{Kept, seedsAt, creditsAt};
+ghost use Rattle.area.specs.Area.{Kept, seedsAt, clocksAt};
 ghost use Rattle.laying.specs.Standing.{Prepared, Sown, Lay};
 ghost use Rattle.laying.specs.Bounds.{countAt, recordOf, Above, Shared, AllBounds};
 
@@ -25,14 +25,15 @@ pub fn prepare(table: &[u32], mode: u32, work: &mut [u64])
 {
     engine::sort(table, mode, work);
     clocks::clocks(table, work);
+    clocks::bases(table, mode, work);
 }
 
 // The seeds of test j.
 fn seed(table: &[u32], mode: u32, work: &mut [u64], j: usize)
     requires { ⌜ Prepared (now table) mode (now work) × (j < testCount (now table)) ⌝ }
-    ensures { λ _. ⌜ Sown (now (table .entry)) mode j (now (work .exit)) × Kept seedsAt creditsAt (now (work .entry)) (now (work .exit)) ⌝ }
+    ensures { λ _. ⌜ Sown (now (table .entry)) mode j (now (work .exit)) × Kept seedsAt clocksAt (now (work .entry)) (now (work .exit)) ⌝ }
 {
-    clocks::seeds(table, mode, work, tables::of_test(table, 0, j));
+    clocks::seeds(table, work, tables::of_test(table, 0, j));
 }
 
 // The seeds and the least values of test j.
@@ -150,7 +151,7 @@ fn lay_shared(table: &[u32], mode: u32, work: &mut [u64])
     ensures { λ _. ⌜ Shared (now (table .entry)) mode (now (work .exit)) ⌝ }
 {
     let clock = shared_clock(table, work);
-    clocks::seeds(table, mode, work, clock);
+    clocks::seeds(table, work, clock);
     walker::least_values(work, tables::pin_count(table));
 }
 

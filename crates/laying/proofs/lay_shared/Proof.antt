@@ -23,7 +23,7 @@ least-values-requires c κs =
     let b = c .before .before .before .before in
     let p = b .before .before .before .before .before .before .pre in
     let e = b .seeds .ensures in
-    rw (c .pin-count .ensures) (shared-ready _ _ _ _ _ (p .0) (p .1) (b .before .before .shared-clock .ensures) (e .1) (e .0))
+    rw (c .pin-count .ensures) (shared-ready _ _ _ _ _ (p .0) (p .1) (b .before .before .shared-clock .ensures) (e .1) (e .0 _ (p .0 .based)))
 
 same-length : tie.Need-same-length
 same-length c = search needs
@@ -36,7 +36,7 @@ returns c =
     let s = b .before .before .before .before .before .before in
     let e = b .seeds .ensures in
     let n : q .pin-count .result ≡ pinCount (s .args .table .now) = q .pin-count .ensures in
-    shared-bounds _ _ _ _ _ (s .pre .0) (s .pre .1) (b .before .before .shared-clock .ensures) (e .1) (e .0) _ (rw n at (k .ensures))
+    shared-bounds _ _ _ _ _ (s .pre .0) (s .pre .1) (b .before .before .shared-clock .ensures) (e .1) (e .0 _ (s .pre .0 .based)) _ (rw n at (k .ensures))
 
 pub lay-shared-spec : {M : Type 1} → statement M
 lay-shared-spec =

@@ -16,14 +16,18 @@ sort-requires c κs =
 clocks-requires : tie.Need-clocks-requires
 clocks-requires c κs = search needs
 
+bases-requires : tie.Need-bases-requires
+bases-requires c κs = search needs
+
 same-length : tie.Need-same-length
 same-length c = search needs
 
 returns : tie.Need-returns
 returns c =
-    let s = c .before .before .before .before .before .before .sort in
-    let k = c .before .before .clocks in
-    (clocks-prepared _ _ _ _ (s .ensures .by-arcs) (k .ensures .0) (k .ensures .1), k .kept .1 .0 ∙ s .kept .1 .1 .0)
+    let b = c .before .before .bases in
+    let k = c .before .before .before .before .before .before .clocks in
+    let s = c .before .before .before .before .before .before .before .before .before .before .sort in
+    (clocks-prepared _ _ _ _ _ (s .ensures .by-arcs) (k .ensures .0) (k .ensures .1) (b .ensures .0) (b .ensures .1), b .ensures .1 .long ∙ k .ensures .1 .long ∙ s .kept .1 .1 .0)
 
 pub prepare-spec : {M : Type 1} → statement M
-prepare-spec = tie.close (tie.spec sort-requires clocks-requires same-length returns)
+prepare-spec = tie.close (tie.spec sort-requires clocks-requires bases-requires same-length returns)

@@ -25,7 +25,7 @@ returns c =
     let b = c .before .before in
     let s = b .before .before .before .before .before in
     let e : b .before .of-test .result ≡ testClock (s .args .table .now) (s .args .j) = b .before .of-test .ensures in
-    (sown _ _ _ (s .pre .1) _ _ (s .pre .0) (b .seeds .ensures .1) (rw e at (b .seeds .ensures .0)), b .seeds .ensures .1)
+    (sown _ _ _ (s .pre .1) _ _ (s .pre .0) (b .seeds .ensures .1) (rw e at (b .seeds .ensures .0 _ (s .pre .0 .based))), b .seeds .ensures .1)
 
 pub seed-spec : {M : Type 1} → statement M
 seed-spec = tie.close (tie.spec of-test-requires seeds-requires same-length returns)

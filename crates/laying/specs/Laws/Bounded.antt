@@ -26,7 +26,7 @@ use Rattle.timing.specs.Laws.Columns.{pins-is, tests-is, clock-is, data-is}
 use Rattle.timing.specs.Laws.Counted.{walks-some}
 use Rattle.timing.specs.Laws.Walked.{walks-sound}
 use Rattle.worst.specs.Laws.Least.{value-above}
-use Rattle.area.specs.Area.{Kept, plan, seedsAt, creditsAt}
+use Rattle.area.specs.Area.{Kept, plan, seedsAt, clocksAt}
 use Rattle.clocks.specs.Clocked.{ClockPin, Common, Seeded}
 use Rattle.clocks.specs.Known.{test-clock}
 use Rattle.engine.specs.Laid as sorted
@@ -120,7 +120,7 @@ module _ (t : Table) (h : tableFault t ≡ none) where
 
 -- ---- the least values against it
 
-module _ (t : Table) (mode y : ℕ) (w v : List ℕ) (p : Prepared t mode w) (l : 0 < testCount t) (a : Above t (testCount t) y) (k : Kept seedsAt creditsAt w v)
+module _ (t : Table) (mode y : ℕ) (w v : List ℕ) (p : Prepared t mode w) (l : 0 < testCount t) (a : Above t (testCount t) y) (k : Kept seedsAt clocksAt w v)
     (s : Seeded (modeOf mode) t y (pinCount t) v) where
   shared-laid : sorted.Laid (structure t) (weighing t mode) (seedOf (modeOf mode) level (structure t) (times t) y) (plan v)
   shared-laid = seeds-laid t mode y (a .pin) (shared-small t (p .clocked .ready .checked) mode y a l) v (seeds-prepared t mode w v p k) s

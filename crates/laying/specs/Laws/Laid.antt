@@ -9,14 +9,13 @@ use Rattle.timing.specs.Table.{Table, pinCount, testCount}
 use Rattle.timing.specs.Structure.{structure}
 use Rattle.timing.specs.Laws.Accepted.{accepted}
 use Rattle.timing.specs.Laws.Columns.{pins-is}
-use Rattle.area.specs.Area.{Kept, plan, seedsAt, creditsAt}
-use Rattle.clocks.specs.Kept.{clocked-same}
+use Rattle.area.specs.Area.{Kept, plan, seedsAt, clocksAt}
 use Rattle.engine.specs.Laid as sorted
 use Rattle.engine.specs.Sorting.{weighing}
 use Rattle.walker.specs.Cursors.{Planned}
 use Rattle.walker.specs.Leasts.{Laid, Beside, AllLeasts}
 use Rattle.laying.specs.Standing.{testSeed, Prepared, Sown, Lay}
-use Rattle.laying.specs.Laws.Prepared.{plan-same}
+use Rattle.laying.specs.Laws.Prepared.{plan-same, prepared-same}
 
 module _ (t : Table) (mode : ℕ) (seed : ℕ → ℕ) (w : List ℕ) (p : Prepared t mode w) (l : sorted.Laid (structure t) (weighing t mode) seed (plan w)) where
   -- a plan that is laid
@@ -48,10 +47,10 @@ module _ (t : Table) (mode : ℕ) (w v : List ℕ) (b : Beside w v) where
   plan-beside = plan-same w v (b .long) (b .front)
 
   pub prepared-beside : Prepared t mode w → Prepared t mode v
-  prepared-beside p = record { clocked = clocked-same t w v (b .long) (λ i h l. b .back i h) (p .clocked); by-arcs = rw plan-beside (p .by-arcs) }
+  prepared-beside p = prepared-same t mode w v (b .long) (λ i h l. b .front i (omega arith)) (λ i h l. b .back i h) p
 
 -- a test is laid
-pub lay-of : (t : Table) (mode j : ℕ) (w v u : List ℕ) → j < testCount t → Kept seedsAt creditsAt w v → Sown t mode j v → AllLeasts v u (pinCount t) → Lay t mode j w u
+pub lay-of : (t : Table) (mode j : ℕ) (w v u : List ℕ) → j < testCount t → Kept seedsAt clocksAt w v → Sown t mode j v → AllLeasts v u (pinCount t) → Lay t mode j w u
 lay-of t mode j w v u l k s a =
     let b = a .beside in
     record {

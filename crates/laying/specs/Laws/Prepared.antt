@@ -17,15 +17,15 @@ use Rattle.timing.specs.Check.{tableFault}
 use Rattle.timing.specs.Laws.Accepted.{accepted, accepted-level}
 use Rattle.timing.specs.Laws.Columns.{pins-is, arcs-is, tests-is, clock-is}
 use Rattle.timing.specs.Laws.Valued.{value-most}
-use Rattle.clocks.specs.Clocked.{ClockPin, Clocked, Seeded, seedFor}
-use Rattle.clocks.specs.Kept.{kept-take, clocked-kept}
+use Rattle.clocks.specs.Clocked.{ClockPin, Clocked, Based, Seeded, seedFor}
+use Rattle.clocks.specs.Kept.{clocked-same, clocked-behind, based-same}
 use Rattle.clocks.specs.Known.{test-clock}
 use Rattle.clocks.specs.Small.{seed-small}
-use Rattle.area.specs.Area.{Kept, plan, planLength, arcsAt, seedsAt, creditsAt, countsAt, clocksAt, turnsAt}
+use Rattle.area.specs.Area.{Kept, plan, planLength, arcsAt, seedsAt, countsAt, clocksAt, basesAt, turnsAt}
 use Rattle.engine.specs.Laid.{Ordered, Arcs, Small, Laid, Ready}
 use Rattle.engine.specs.Sorting.{weighing}
 use Rattle.engine.specs.Laws.Made.{plan-at}
-use Rattle.engine.specs.Laws.Kept.{arcs-kept, seeds-are}
+use Rattle.engine.specs.Laws.Kept.{arcs-same, seeds-are}
 use Rattle.laying.specs.Standing.{level, testSeed, Prepared, Sown}
 
 -- the plan stands before the counts
@@ -53,21 +53,35 @@ module _ (t : Table) (h : tableFault t ≡ none) where
       }
 
 module _ (t : Table) (mode : ℕ) where
-  -- the clock side is written behind the arcs
-  pub clocks-prepared : (w v : List ℕ) → Arcs (structure t) (weighing t mode) (plan w) → Clocked t v → Kept clocksAt turnsAt w v → Prepared t mode v
-  clocks-prepared w v a c k =
+  -- the clock side and the bases are written behind the arcs
+  pub clocks-prepared : (w u v : List ℕ) → Arcs (structure t) (weighing t mode) (plan w) → Clocked t u → Kept clocksAt turnsAt w u → Based (modeOf mode) t v → Kept basesAt turnsAt u v
+      → Prepared t mode v
+  clocks-prepared w u v a c k b l =
       record {
-        clocked = c;
-        by-arcs = arcs-kept (structure t) (weighing t mode) v w (few-pins t (c .ready .checked)) (kept-take clocksAt turnsAt w v k seedsAt (omega arith)) a;
+        clocked = clocked-behind t basesAt turnsAt u v (omega arith) l c;
+        based = b;
+        by-arcs = arcs-same (structure t) (weighing t mode) (plan v) (plan w) (few-pins t (c .ready .checked))
+            (λ i h.
+            plan-at v i (omega arith) ∙ l .front (arcsAt + i) (omega arith) ∙ k .front (arcsAt + i) (omega arith) ∙ sym (plan-at w i (omega arith)))
+            a;
+      }
+
+  -- they stay where nothing is written there
+  pub prepared-same : (w v : List ℕ) → length v ≡ length w → ((i : ℕ) → arcsAt ≤ i → i < seedsAt → getD v i 0 ≡ getD w i 0)
+      → ((i : ℕ) → clocksAt ≤ i → i < turnsAt → getD v i 0 ≡ getD w i 0) → Prepared t mode w → Prepared t mode v
+  prepared-same w v n arcs clocks p =
+      let h = p .clocked .ready .checked in
+      record {
+        clocked = clocked-same t w v n clocks (p .clocked);
+        based = based-same (modeOf mode) t w v h (λ i a b. clocks i (omega arith) b) (p .based);
+        by-arcs = arcs-same (structure t) (weighing t mode) (plan v) (plan w) (few-pins t h)
+            (λ i l. plan-at v i (omega arith) ∙ arcs (arcsAt + i) (omega arith) (omega arith) ∙ sym (plan-at w i (omega arith)))
+            (p .by-arcs);
       }
 
   -- seeds are written between the arcs and the clock side
-  pub seeds-prepared : (w v : List ℕ) → Prepared t mode w → Kept seedsAt creditsAt w v → Prepared t mode v
-  seeds-prepared w v p k =
-      record {
-        clocked = clocked-kept t seedsAt creditsAt w v (omega arith) k (p .clocked);
-        by-arcs = arcs-kept (structure t) (weighing t mode) v w (few-pins t (p .clocked .ready .checked)) (kept-take seedsAt creditsAt w v k seedsAt (omega arith)) (p .by-arcs);
-      }
+  pub seeds-prepared : (w v : List ℕ) → Prepared t mode w → Kept seedsAt clocksAt w v → Prepared t mode v
+  seeds-prepared w v p k = prepared-same w v (k .long) (λ i a b. k .front i b) (λ i a b. k .back i a) p
 
   -- the seeds of clock pin y make the area laid, where no value against y is large
   pub seeds-laid : (y : ℕ) → ClockPin t y → Small (structure t) (weighing t mode) (seedOf (modeOf mode) level (structure t) (times t) y) → (w : List ℕ) → Prepared t mode w
@@ -98,7 +112,7 @@ module _ (t : Table) (mode : ℕ) where
         subst (λ (f : ℕ → ℕ). valueOf s (weightOf m f s x) (seedOf m f s x c) w < 1073741824) (accepted-level t h)
         (value-most s (a .sound) x (a .ranged) m c p (a .sound .clock-in j d) (a .sound .clock-kind j d) k w i)
 
-    pub sown : (w v : List ℕ) → Prepared t mode w → Kept seedsAt creditsAt w v → Seeded (modeOf mode) t (testClock t j) (pinCount t) v → Sown t mode j v
+    pub sown : (w v : List ℕ) → Prepared t mode w → Kept seedsAt clocksAt w v → Seeded (modeOf mode) t (testClock t j) (pinCount t) v → Sown t mode j v
     sown w v p k s =
         let q = seeds-prepared w v p k in
         let h = q .clocked .ready .checked in

@@ -4,10 +4,10 @@ use mathlib.Core.Path.{_≡_, sym, ap, _∙_}
 use mathlib.Core.Bool.{false}
 use mathlib.Core.List.{List}
 use mathlib.Core.Option.{none}
-use Prim.Native.Nat.{ℕ, _<_, min}
+use Prim.Native.Nat.{ℕ, _+_, _-_, _≤_, _<_, min}
 use native.Mathlib.Omega.{arith}
-use lib.ListN.{length, take}
-use lib.Seq.{take-take}
+use lib.ListN.{length, getD}
+use lib.Seq.{getD-take, getD-drop}
 use Rattle.lists.specs.Laws.Member.{length-each}
 use Rattle.lists.specs.Laws.Count.{countTo, countTo-none, countTo-gather}
 use Rattle.timing.specs.Limits.{mostTotal}
@@ -19,15 +19,13 @@ use Rattle.timing.specs.Check.{tableFault}
 use Rattle.timing.specs.Laws.Accepted.{accepted}
 use Rattle.timing.specs.Laws.Columns.{pins-is, tests-is, data-is}
 use Rattle.timing.specs.Laws.Counted.{total-capped}
-use Rattle.clocks.specs.Kept.{clocked-drop}
 use Rattle.clocks.specs.Known.{test-data}
-use Rattle.area.specs.Area.{seedsAt, countsAt}
+use Rattle.area.specs.Area.{countsAt, clocksAt}
 use Rattle.engine.specs.Asked.{Counted}
 use Rattle.engine.specs.Sorting.{weighing}
-use Rattle.engine.specs.Laws.Kept.{arcs-kept}
 use Rattle.laying.specs.Standing.{testSeed, Prepared, Sown}
 use Rattle.laying.specs.Bounds.{countAt}
-use Rattle.laying.specs.Laws.Prepared.{few-pins}
+use Rattle.laying.specs.Laws.Prepared.{prepared-same}
 
 module _ (t : Table) where
   -- a test's data pin is no start
@@ -46,13 +44,17 @@ module _ (t : Table) where
   module _ (mode j : ℕ) (w v : List ℕ) (p : Sown t mode j w) (c : Counted w v (pinCount t)) where
     -- the counts are written between the arcs and the clock side
     pub counts-prepared : length v ≡ length w → Prepared t mode v
-    counts-prepared n =
-        let e : take seedsAt v ≡ take seedsAt w = sym (take-take seedsAt 5633 v (omega arith)) ∙ ap (take seedsAt) (c .front) ∙ take-take seedsAt 5633 w (omega arith) in
-        let q = p .prepared in
-        record {
-          clocked = clocked-drop t w v n (c .back) (q .clocked);
-          by-arcs = arcs-kept (structure t) (weighing t mode) v w (few-pins t (q .clocked .ready .checked)) e (q .by-arcs);
-        }
+    counts-prepared n = prepared-same t mode w v n (λ i h l. before i (omega arith)) (λ i h l. behind i h) (p .prepared)
+      where
+        before : (i : ℕ) → i < countsAt → getD v i 0 ≡ getD w i 0
+        before i l = sym (getD-take countsAt v i 0 l) ∙ ap (λ (a : List ℕ). getD a i 0) (c .front) ∙ getD-take countsAt w i 0 l
+
+        behind : (i : ℕ) → clocksAt ≤ i → getD v i 0 ≡ getD w i 0
+        behind i h =
+            let q : clocksAt + (i - clocksAt) ≡ i = omega arith in
+            ap (λ (j : ℕ). getD v j 0) (sym q) ∙ sym (getD-drop clocksAt v (i - clocksAt) 0)
+            ∙ ap (λ (a : List ℕ). getD a (i - clocksAt) 0) (c .back)
+            ∙ getD-drop clocksAt w (i - clocksAt) 0 ∙ ap (λ (j : ℕ). getD w j 0) q
 
     -- the counts of all tests, whatever test is laid: a count knows no seed
     pub counts-total : countTo mostTotal (countAt t v) (testCount t) ≡ total (structure t)

@@ -27,7 +27,7 @@ use Rattle.timing.specs.Laws.Accepted.{accepted}
 use Rattle.timing.specs.Laws.Columns.{pins-is, tests-is}
 use Rattle.timing.specs.declared.Candidate.{Candidate}
 use Rattle.area.specs.Area as clockArea
-use Rattle.clocks.specs.Kept.{clocked-same}
+use Rattle.laying.specs.Laws.Prepared.{prepared-same}
 use Rattle.area.specs.Area.{plan, countsAt}
 use Rattle.engine.specs.Laws.Made.{plan-at}
 use Rattle.engine.specs.Sorting.{weighing}
@@ -110,7 +110,7 @@ module _ (t : Table) (mode k : ℕ) (hint : ℤ) where
       let R = A .adds (firstTo t mode k hint j) H D in
       let M = R .0 in
       record {
-        prepared = record { clocked = clocked-same t u v (K .long) (λ i a b. K .same i (omega arith) b) (P .clocked); by-arcs = rw e (P .by-arcs) };
+        prepared = prepared-same t mode u v (K .long) (λ i a b. K .same i a (omega arith)) (λ i a b. K .same i (omega arith) b) P;
         sized = A .sized;
         shelf = A .shelf;
         holds = rw (← first-more j)
