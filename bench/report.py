@@ -28,7 +28,7 @@ Stored designs that were made to be dear (`bench/designs/adverse.tar.xz`), with 
 GROWTH = """\
 Instructions of the asking alone in millions. In each series one quantity grows and all else stays, over designs of which no test is left out (`bench/growth.py`).
 `line` is the straight line nearest to the counts, n being what grows, and `off` how far the worst count is from it. `bend` says by what part the last count is
-above the straight line through the first half of the series: 0% for growth in a straight line, 30% or more for a square, less than 0% where it grows more slowly.
+above the straight line through the first half of the series: 0% for growth in a straight line, less where it grows more slowly, much more where a square is in it.
 """
 
 READING = """\
@@ -172,9 +172,10 @@ def clearing_sentences(counts):
     if counts is None:
         return ["It was not measured."]
     how = "with `rep stosb`" if counts["by_memset"] >= counts["by_bytes"] else "with vectors"
-    text = (f"Callgrind counts the one instruction `rep stos` as often as it stores: {counts['by_bytes']:,} times to clear the work area of 65,536 bytes byte by "
-            f"byte, {counts['by_words']:,} times by eight bytes at a time (`bench/clear.c`). Every asking ends with this clearing, as a `memset` that the C library "
-            f"does {how}: {counts['by_memset']:,} instructions ({millions(counts['by_memset'])} Mi) of each asking on this page. `fast` has no work area to clear.")
+    text = (f"Callgrind counts the one instruction `rep stos` as often as it stores: {counts['by_bytes']:,} times to clear the work area of 65,536 bytes byte "
+            f"by byte, {counts['by_words']:,} times by eight bytes at a time (`bench/clear.c`). Every asking ends with this clearing, as a `memset` that the C "
+            f"library does {how}: {counts['by_memset']:,} instructions ({millions(counts['by_memset'])} Mi) of each asking on this page. `fast` has no work "
+            "area to clear.")
     return textwrap.wrap(text, 160)
 
 
