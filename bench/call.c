@@ -1,5 +1,10 @@
-/* Reads a text on standard input through the library's C interface, asks, and prints what `toppaths` prints: so the calls can be counted by themselves. */
+/* Reads texts on standard input through the library's C interface, asks, and prints what `toppaths` prints: so the calls can be counted by themselves.
+ *
+ *     call            one text: all of standard input
+ *     call --many     any number of texts, before each a line with how many bytes it has
+ */
 #include <stdio.h>
+#include <string.h>
 
 #include "chthonyra.h"
 
@@ -8,10 +13,9 @@ static uint32_t table[CHTHONYRA_TABLE];
 static int64_t room[CHTHONYRA_ROOM];
 static uint64_t work[CHTHONYRA_WORK];
 
-static int refused(uint32_t number, size_t place)
+static void refused(uint32_t number, size_t place)
 {
     printf("refused\t%u\t%zu\n", number, place);
-    return 0;
 }
 
 static void print_row(size_t rank, const int64_t *row)
@@ -24,17 +28,37 @@ static void print_row(size_t rank, const int64_t *row)
     printf("\n");
 }
 
-int main(void)
+/* The text of so many bytes: read, asked and printed. */
+static void answer(size_t length)
 {
-    size_t length = fread(text, 1, sizeof text, stdin);
     struct chthonyra_reading reading = chthonyra_read(text, length, table, CHTHONYRA_TABLE);
-    if (reading.refusal != 0)
-        return refused(reading.refusal, reading.place);
+    if (reading.refusal != 0) {
+        refused(reading.refusal, reading.place);
+        return;
+    }
     struct chthonyra_answer answer = chthonyra_ask(table, reading.length, reading.mode, reading.k, room, CHTHONYRA_ROOM, work, CHTHONYRA_WORK);
-    if (answer.refusal != 0)
-        return refused(answer.refusal, answer.place);
+    if (answer.refusal != 0) {
+        refused(answer.refusal, answer.place);
+        return;
+    }
     for (size_t i = 0; i < answer.rows; i++)
         print_row(i + 1, room + i * CHTHONYRA_ROW(table[0]));
     printf("end\t%zu\t%llu\n", answer.rows, (unsigned long long)answer.total);
+}
+
+/* The next text behind a line with its length; 0 at the end of the input. */
+static int next_text(size_t *length)
+{
+    return scanf("%zu", length) == 1 && getchar() == '\n' && *length <= sizeof text && fread(text, 1, *length, stdin) == *length;
+}
+
+int main(int count, char **words)
+{
+    size_t length;
+    if (count == 2 && strcmp(words[1], "--many") == 0)
+        while (next_text(&length))
+            answer(length);
+    else
+        answer(fread(text, 1, sizeof text, stdin));
     return 0;
 }

@@ -1,6 +1,6 @@
-"""The benchmark's own designs, in series: each series grows in one quantity, the last in all of them. The same designs come out each time.
+"""The benchmark's own designs of any size, and the series that grows in pins, arcs and tests together. The same designs come out each time.
 
-Of each there are two kinds.
+There are two kinds.
 - Common clock: data arcs at random, mostly between near pins. Tests differ in their worst slack, and a reporter may leave many of them out.
 - Split clock, made to cost as much as the writer could think of. No test can be left out by what all tests have in common: R has two branches with wide ranges,
   and one test hangs on the second; so no credit is shared by all tests, while every path has that of its branch, far more than slacks differ. And no arc can
@@ -27,10 +27,7 @@ class Shape(NamedTuple):
         return f"{'split' if self.split else 'common'}-{self.pins}-{self.arcs}-{self.tests}"
 
 
-# Each series: the quantity that grows, what stays, and the sizes.
-ARCS = [(256, arcs, 64) for arcs in (320, 448, 576, 704, 864, 1024)]
-TESTS = [(256, 1024, tests) for tests in (2, 4, 8, 16, 32, 64)]
-PINS = [(pins, 1024, 64) for pins in (96, 128, 160, 192, 224, 256)]
+# Pins, arcs and tests of the series that grows in all of them.
 SIZES = [(16, 32, 4), (32, 64, 8), (64, 192, 16), (128, 448, 32), (256, 1024, 64)]
 
 
@@ -77,9 +74,9 @@ def chained_arcs(plan, chance, starts, data, arcs):
             plan.arc(data[place - 1] if place else chance.choice(starts), pin, 40 - wider, 40 + wider)
 
 
-def plan_of(shape, clock_of=256):
+def plan_of(shape, clock_of=256, seed=""):
     """The design of a shape, with as many clock pins and inputs as a design of `clock_of` pins has: so in a series these do not grow with the pins."""
-    chance = random.Random(shape.name())
+    chance = random.Random(f"{shape.name()}{seed}")
     plan = plans.Plan(PERIOD)
     buffers, clocks, inputs = clock_counts(clock_of, shape.split)
     grow_clock(plan, chance, shape.split, buffers, clocks)
@@ -98,10 +95,7 @@ def plan_of(shape, clock_of=256):
     return plan
 
 
-def all_shapes():
-    """Every shape of every series, and of how many pins its clock part is."""
-    for split in (False, True):
-        for sizes in ARCS + TESTS + PINS:
-            yield Shape(split, *sizes), 256
-        for sizes in SIZES[:-1]:
-            yield Shape(split, *sizes), sizes[0]
+def sized(split, size, mode, k=16):
+    """A name and a text: of the series in size, with a clock part of a design of so many pins."""
+    shape = Shape(split, *size)
+    return f"{shape.name()}-{mode}", plan_of(shape, size[0]).text(mode, k)

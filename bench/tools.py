@@ -19,11 +19,15 @@ HEADER = ROOT / "include" / "chthonyra.h"
 # AVX2, but no AVX-512: valgrind does not know that.
 RUST_FLAGS = ["--edition", "2024", "--crate-name", "fast", "-C", "opt-level=3", "-C", "target-cpu=x86-64-v3", "-C", "lto=fat", "-C", "codegen-units=1",
               "-C", "panic=abort"]
-C_FLAGS = ["-O2", "-Wall", "-Wextra"]
+# What is linked is bound before the program starts, so that no call that is counted has to find another.
+C_FLAGS = ["-O2", "-Wall", "-Wextra", "-Wl,-z,now"]
 
-# The functions whose instructions are the asking's.
+# The functions that are counted alone.
 FAST_ASKING = "fast::ask::ask"
-LIBRARY_ASKING = "chthonyra_ask"
+ASKING = "chthonyra_ask"
+READING = "chthonyra_read"
+
+SECONDS = 20  # that an answer may take
 
 
 class Absent(Exception):
@@ -53,11 +57,16 @@ def fast():
     return built(["rustc", *RUST_FLAGS, ROOT / "bench" / "fast" / "main.rs"], BUILT / "fast")
 
 
-def call():
+def call(archive=ARCHIVE, name="call"):
     """A C program that calls the proved library."""
-    if not (ARCHIVE.exists() and HEADER.exists()):
+    if not (archive.exists() and HEADER.exists()):
         raise Absent("the library for C is not built: rt staticlib chthonyra")
-    return built(["gcc", *C_FLAGS, f"-I{HEADER.parent}", ROOT / "bench" / "call.c", ARCHIVE], BUILT / "call")
+    return built(["gcc", *C_FLAGS, f"-I{HEADER.parent}", ROOT / "bench" / "call.c", archive], BUILT / name)
+
+
+def clear():
+    """A C program that clears memory in several ways."""
+    return built(["gcc", *C_FLAGS, f"-I{HEADER.parent}", ROOT / "bench" / "clear.c"], BUILT / "clear")
 
 
 def networkx():
@@ -84,9 +93,16 @@ def found(make):
 
 # ------------------------------------------------------------- running
 
+class Slow(Exception):
+    """A program that took longer than an answer may."""
+
+
 def printed(command, text):
     """What a program prints of a text."""
-    return subprocess.run([str(command)], input=text, capture_output=True, check=True).stdout
+    try:
+        return subprocess.run([str(command)], input=text, capture_output=True, check=True, timeout=SECONDS).stdout
+    except subprocess.TimeoutExpired as slow:
+        raise Slow(f"no answer within {SECONDS} s") from slow
 
 
 def once(command, source):
@@ -109,17 +125,31 @@ def times(commands, source, runs):
     return [statistics.median(column) for column in zip(*taken)]
 
 
-def instructions(command, text, wanted, function=None):
-    """The instructions of a process, or of the calls of one function in it. What it prints meanwhile must be what is wanted."""
-    with tempfile.NamedTemporaryFile() as out:
-        counter = callgrind() + [f"--callgrind-out-file={out.name}"] + ([f"--toggle-collect={function}"] if function else [])
-        run = subprocess.run(counter + [str(command)], input=text, capture_output=True, check=False)
+def instructions(command, text, wanted):
+    """The instructions of a whole process. What it prints meanwhile must be what is wanted."""
+    run = subprocess.run(callgrind() + ["--callgrind-out-file=/dev/null", str(command)], input=text, capture_output=True, check=False)
     if run.returncode or run.stdout != wanted:
         raise RuntimeError(f"{command} under callgrind: {run.stderr.decode()[-2000:]}")
-    count = int(re.search(rb"Collected : (\d+)", run.stderr).group(1))
-    if count == 0:
-        raise RuntimeError(f"{command} never called {function}")
-    return count
+    return int(re.search(rb"Collected : (\d+)", run.stderr).group(1))
+
+
+def calls(command, texts, function, wanted=None):
+    """The instructions of the call of a function for each of the texts, in one process: nothing else is counted, and the count is written down after each call.
+    What the process prints meanwhile must be what is wanted, if that is said. A text that does not come to the call spoils the order, and is an error."""
+    given = b"".join(b"%d\n%s" % (len(text), text) for text in texts)
+    with tempfile.TemporaryDirectory() as folder:
+        out = Path(folder) / "out"
+        counter = callgrind() + [f"--callgrind-out-file={out}", f"--toggle-collect={function}", f"--dump-after={function}"]
+        run = subprocess.run(counter + [str(command), "--many"], input=given, capture_output=True, check=False)
+        counts = [int(re.search(r"^totals: (\d+)", part.read_text(encoding="ascii"), re.M).group(1)) for part in map(Path, numbered(out))]
+    if run.returncode or len(counts) != len(texts) or 0 in counts or (wanted is not None and run.stdout != b"".join(wanted)):
+        raise RuntimeError(f"{command} under callgrind, {len(counts)} counts of {function} for {len(texts)} texts: {run.stderr.decode()[-2000:]}")
+    return counts
+
+
+def numbered(out):
+    """The files that callgrind has written beside the last one, in order."""
+    return sorted(out.parent.glob(f"{out.name}.*"), key=lambda part: int(part.suffix[1:]))
 
 
 # ------------------------------------------------------------- the machine

@@ -9,7 +9,7 @@ mod check;
 mod print;
 mod text;
 
-use std::io::{self, Read, Write};
+use std::io::{self, BufRead, Read, Write};
 
 /// The most pins, arcs, tests and rows of a design, and the most bytes of a text.
 pub const PINS: usize = 256;
@@ -49,8 +49,26 @@ fn answer(text: Vec<u8>) -> Vec<u8> {
     }
 }
 
+/// The next text behind a line with its number of bytes; none at the end of the input.
+fn next_text(input: &mut impl BufRead) -> io::Result<Option<Vec<u8>>> {
+    let mut line = String::new();
+    input.read_line(&mut line)?;
+    let Ok(length) = line.trim_end().parse() else { return Ok(None) };
+    let mut text = vec![0; length];
+    input.read_exact(&mut text)?;
+    Ok(Some(text))
+}
+
+/// One text, all of standard input; with `--many` any number of them, before each a line with how many bytes it has.
 fn main() -> io::Result<()> {
+    let (mut input, mut output) = (io::stdin().lock(), io::stdout().lock());
+    if std::env::args().nth(1).as_deref() == Some("--many") {
+        while let Some(text) = next_text(&mut input)? {
+            output.write_all(&answer(text))?;
+        }
+        return Ok(());
+    }
     let mut text = Vec::with_capacity(TEXT + 64);
-    io::stdin().lock().take(TEXT as u64 + 1).read_to_end(&mut text)?;
-    io::stdout().lock().write_all(&answer(text))
+    input.take(TEXT as u64 + 1).read_to_end(&mut text)?;
+    output.write_all(&answer(text))
 }
