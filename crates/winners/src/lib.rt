@@ -16,7 +16,7 @@ ghost use Rattle.winners.specs.Stored.{Shelf, Place, Moved, Entered};
 ghost use Rattle.timing.specs.Table.{testCount};
 ghost use Rattle.laying.specs.Standing.{Prepared, Walks};
 ghost use Rattle.laying.specs.Bounds.{slackOf, AllBounds};
-ghost use Rattle.winners.specs.Finding.{Searching, Tries, Finished, Won, Nothing, Numbered};
+ghost use Rattle.winners.specs.Finding.{hintAt, Searching, Tries, Finished, Rounds, Won, Nothing, Numbered};
 ghost use Rattle.winners.specs.Walking.{At, Under, Nexts, Takes, Took, Added};
 ghost use Rattle.winners.specs.Held.{kept, Sized, Limit, Reach};
 
@@ -321,6 +321,25 @@ pub struct Found {
     pub out: i64,
 }
 
+// The hints of a round: the tests up to `last` take paths below `high`, those behind it paths below `low`. They are one apart at the most: `low` drops the ties of
+// the k-th path that come later than wanted.
+pub struct Hints {
+    pub high: i64,
+    pub low: i64,
+    pub last: usize,
+}
+
+// The hint of test j.
+fn hint_for(hints: Hints, j: usize) -> i64
+    ensures { λ r. ⌜ r ≡ hintAt (hints .high) (hints .low) (hints .last) j ⌝ }
+{
+    if hints.last < j {
+        hints.low
+    } else {
+        hints.high
+    }
+}
+
 // Test j, laid and walked.
 fn walk_more(
     table: &[u32],
@@ -328,14 +347,15 @@ fn walk_more(
     work: &mut [u64],
     j: usize,
     k: usize,
-    hint: i64,
+    hints: Hints,
     found: Found,
 ) -> Found
-    requires { ⌜ Searching (now table) mode k hint j (now work) (found .best .list) (found .best .count) (found .best .serial) (found .best .slots) (found .out) × (j < testCount (now table)) ⌝ }
-    ensures { λ r. ⌜ Searching (now (table .entry)) mode k hint (j + 1) (now (work .exit)) (r .best .list) (r .best .count) (r .best .serial) (r .best .slots) (r .out) ⌝ }
+    requires { ⌜ Searching (now table) mode k (hintAt (hints .high) (hints .low) (hints .last)) j (now work) (found .best .list) (found .best .count) (found .best .serial) (found .best .slots) (found .out) × (j < testCount (now table)) ⌝ }
+    ensures { λ r. ⌜ Searching (now (table .entry)) mode k (hintAt (hints .high) (hints .low) (hints .last)) (j + 1) (now (work .exit)) (r .best .list) (r .best .count) (r .best .serial) (r .best .slots) (r .out) ⌝ }
 {
     laying::lay(table, mode, work, j);
     let best = found.best;
+    let hint = hint_for(hints, j);
     let walked = walk_test(table, mode, work, j, k, hint, best);
     let out = nearer(found.out, slack_at(table, mode, work, j, walked.out));
     let new = walked.best;
@@ -352,18 +372,18 @@ fn find_test(
     work: &mut [u64],
     j: usize,
     k: usize,
-    hint: i64,
+    hints: Hints,
     bound: u64,
     found: Found,
 ) -> Found
-    requires { ⌜ Tries (now table) mode k hint j bound (now work) (found .best .list) (found .best .count) (found .best .serial) (found .best .slots) (found .out) ⌝ }
-    ensures { λ r. ⌜ Searching (now (table .entry)) mode k hint (j + 1) (now (work .exit)) (r .best .list) (r .best .count) (r .best .serial) (r .best .slots) (r .out) ⌝ }
+    requires { ⌜ Tries (now table) mode k (hintAt (hints .high) (hints .low) (hints .last)) j bound (now work) (found .best .list) (found .best .count) (found .best .serial) (found .best .slots) (found .out) ⌝ }
+    ensures { λ r. ⌜ Searching (now (table .entry)) mode k (hintAt (hints .high) (hints .low) (hints .last)) (j + 1) (now (work .exit)) (r .best .list) (r .best .count) (r .best .serial) (r .best .slots) (r .out) ⌝ }
 {
     let best = found.best;
-    let limit = limit_of(best, k, hint);
+    let limit = limit_of(best, k, hint_for(hints, j));
     let first = slack_of(table, mode, work, j, bound);
     if less(first, limit) {
-        return walk_more(table, mode, work, j, k, hint, found);
+        return walk_more(table, mode, work, j, k, hints, found);
     }
     let out = nearer(found.out, first);
     Found {
@@ -372,17 +392,17 @@ fn find_test(
     }
 }
 
-// The first k of the paths below the hint, of all tests.
+// The first k of the paths below the hints, of all tests.
 fn find(
     table: &[u32],
     mode: u32,
     work: &mut [u64],
     k: usize,
-    hint: i64,
+    hints: Hints,
     bounds: &[u32; Design::TESTS],
 ) -> Found
     requires { ⌜ Prepared (now table) mode (now work) × (0 < k) × (k ≤ mostK) × AllBounds (now table) mode (now bounds) ⌝ }
-    ensures { λ r. ⌜ Searching (now (table .entry)) mode k hint (testCount (now (table .entry))) (now (work .exit)) (r .best .list) (r .best .count) (r .best .serial) (r .best .slots) (r .out) ⌝ }
+    ensures { λ r. ⌜ Searching (now (table .entry)) mode k (hintAt (hints .high) (hints .low) (hints .last)) (testCount (now (table .entry))) (now (work .exit)) (r .best .list) (r .best .count) (r .best .serial) (r .best .slots) (r .out) ⌝ }
 {
     let n = tables::test_count(table);
     let best = nothing();
@@ -392,7 +412,7 @@ fn find(
     };
     let mut j = 0;
     while j < n {
-        found = find_test(table, mode, work, j, k, hint, wide(bounds[j]), found);
+        found = find_test(table, mode, work, j, k, hints, wide(bounds[j]), found);
         j += 1;
     }
     found
@@ -407,6 +427,16 @@ fn unfinished(rounds: usize, count: usize, k: usize, out: i64) -> bool
     (0 < rounds) & (count < k) & less(out, SLACKS)
 }
 
+// One more, if it can be a slack.
+fn after(x: i64) -> i64
+    ensures { λ r. ⌜ Within 0 x r × Within 1 r x ⌝ }
+{
+    if less(x, SLACKS) {
+        return x + 1;
+    }
+    x
+}
+
 // The next hint: just above the least slack that was passed over. In the last round it is above every slack.
 fn raised(out: i64, rounds: usize) -> i64
     ensures { λ r. ⌜ (rounds ≡ 1 → Less (pos 257000000) r) ⌝ }
@@ -414,10 +444,30 @@ fn raised(out: i64, rounds: usize) -> i64
     if rounds == 1 {
         return ABOVE;
     }
-    if less(out, SLACKS) {
-        return out + 1;
+    after(out)
+}
+
+// One hint for all tests.
+fn alike(hint: i64) -> Hints
+    ensures { λ r. ⌜ (r .high ≡ hint) × (r .low ≡ hint) ⌝ }
+{
+    Hints {
+        high: hint,
+        low: hint,
+        last: 0,
     }
-    ABOVE
+}
+
+// Hints that take the paths below a slack, and of those that have it the ones of the tests up to `last`.
+fn with_ties(slack: i64, last: usize) -> Hints
+    ensures { λ r. ⌜ Within 0 (r .low) (r .high) × Within 1 (r .high) (r .low) ⌝ }
+{
+    let high = after(slack);
+    Hints {
+        high: high,
+        low: slack,
+        last: last,
+    }
 }
 
 // The first k paths of all tests. A round that finds fewer than k, having passed over some, is done again with a higher hint: the least value that a round passes
@@ -427,16 +477,16 @@ fn by_rounds(
     mode: u32,
     work: &mut [u64],
     k: usize,
-    hint: i64,
+    hints: Hints,
     bounds: &[u32; Design::TESTS],
 ) -> Best
-    requires { ⌜ Prepared (now table) mode (now work) × (0 < k) × (k ≤ mostK) × AllBounds (now table) mode (now bounds) ⌝ }
+    requires { ⌜ Rounds (now table) mode k (hints .high) (hints .low) (now work) (now bounds) ⌝ }
     ensures { λ r. ⌜ Won (now (table .entry)) mode k (now (work .exit)) (r .list) (r .count) (r .slots) ⌝ }
 {
-    let mut found = find(table, mode, work, k, hint, bounds);
+    let mut found = find(table, mode, work, k, hints, bounds);
     let mut rounds = k;
     while unfinished(rounds, found.best.count, k, found.out) {
-        let higher = raised(found.out, rounds);
+        let higher = alike(raised(found.out, rounds));
         found = find(table, mode, work, k, higher, bounds);
         rounds -= 1;
     }
@@ -449,6 +499,8 @@ pub fn first(table: &[u32], mode: u32, work: &mut [u64], k: usize) -> Best
     requires { ⌜ Prepared (now table) mode (now work) × (0 < k) × (k ≤ mostK) ⌝ }
     ensures { λ r. ⌜ Won (now (table .entry)) mode k (now (work .exit)) (r .list) (r .count) (r .slots) ⌝ }
 {
-    let bounds = laying::bounds_of(table, mode, work);
-    by_rounds(table, mode, work, k, ABOVE, &bounds)
+    let mut bounds = laying::bounds_of(table, mode, work);
+    let hint = hints::hint(table, mode, work, k, &mut bounds);
+    let hints = with_ties(hint.slack, hint.last);
+    by_rounds(table, mode, work, k, hints, &bounds)
 }

@@ -100,6 +100,12 @@ module _ {A : Type 0} where
   -- ---- one passes, every one passes
 
   -- where one passes there is one that does
+  -- where all pass
+  pub those-all : (p : A → Bool) (l : List A) → All (λ x. p x ≡ true) l → those p l ≡ l
+  unfolding those pick
+  those-all p [] a = refl
+  those-all p (x ∷ l) a = rw (a .0) (ap (λ (m : List A). x ∷ m) (those-all p l (a .1)))
+
   pub any-in : (p : A → Bool) (l : List A) → any p l ≡ true → (x : A) × In x l × (p x ≡ true)
   unfolding any pick
   any-in p [] e = absurd (false≢true e)
@@ -168,6 +174,11 @@ module _ {A : Type 0} where
   pairs-map R S f (x ∷ l) h = (all-map (R x) (S x) (f x) l (h .0), pairs-map R S f l (h .1))
 
   -- every two of the first of two lists
+  -- what holds of any two members
+  pub pairs-all : (R : A → A → Type 0) (l : List A) → ((x y : A) → In x l → In y l → R x y) → Pairs R l
+  pairs-all R [] h = tt
+  pairs-all R (x ∷ l) h = (of-all (R x) l (λ y i. h x y (inl refl) (inr i)), pairs-all R l (λ y z i k. h y z (inr i) (inr k)))
+
   pub pairs-front : (R : A → A → Type 0) (xs ys : List A) → Pairs R (xs ++ ys) → Pairs R xs
   pairs-front R [] ys h = tt
   pairs-front R (x ∷ xs) ys h = (all-front (R x) xs ys (h .0), pairs-front R xs ys (h .1))

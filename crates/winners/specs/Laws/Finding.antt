@@ -1,6 +1,6 @@
 -- One test after the other; and what the list holds behind the last.
 -- Assumes nothing.
-use mathlib.Core.Path.{_≡_, refl, sym, ap, _∙_}
+use mathlib.Core.Path.{_≡_, refl, sym, ap, subst, _∙_}
 use mathlib.Core.Logic.{_⊎_, inl, inr, ⊎-elim}
 use mathlib.Core.Bool.{true}
 use mathlib.Core.List.{List, [], _∷_, append-nil}
@@ -13,7 +13,7 @@ use native.Mathlib.Decide.{ℕ-discrete}
 use Rattle.lists.specs.Parts.{those, each, gather}
 use Rattle.lists.specs.Parts as parts
 use Rattle.lists.specs.Rank.{by}
-use Rattle.lists.specs.Laws.Member.{In, All, of-all, in-either, in-each}
+use Rattle.lists.specs.Laws.Member.{In, All, Pairs, of-all, in-either, in-each, those-cong, those-all, pairs-all, pairs-map, pairs-gather, pairs-below}
 use Rattle.lists.specs.Laws.Join.{gather-more, those-join}
 use Rattle.lists.specs.Laws.Ranking.{Both}
 use Rattle.lists.specs.Laws.Ranks.{top-append}
@@ -35,7 +35,8 @@ use Rattle.laying.specs.Standing.{level, testSeed, Prepared, Lay}
 use Rattle.walker.specs.Cursors.{Planned}
 use Rattle.walker.specs.Leasts.{Laid, AllLeasts}
 use Rattle.walker.specs.Slots.{Stands, Still}
-use Rattle.walker.specs.Laws.Under.{below, Out, top-cut, top-under}
+use Rattle.walker.specs.Laws.Under.{below, Out, top-cut, top-is}
+use Rattle.lists.specs.Laws.Falling.{kept, Near, Falls, top-falling}
 use Rattle.winners.specs.Held.{slackIn, Told, Limit}
 use Rattle.winners.specs.Stored.{noPath, Stored}
 use Rattle.winners.specs.Walking.{Added}
@@ -46,8 +47,10 @@ use Rattle.lists.specs.Choice.{pick}
 use Rattle.lists.specs.Laws.Cases.{by-test}
 use Rattle.lists.specs.Laws.Integer.{Within, Less, less-within, not-less-within, sub-within, le-within}
 use Rattle.timing.specs.Laws.Bounds.{slack-bounds}
+use lib.Dec.{ltb}
 use lib.Signed.{ltZ}
-use Rattle.winners.specs.Finding.{firstTo, Finding, Searching, Tries, Won, Nothing, Numbered}
+use borrow.Author.Tests.{lt-ltb, ltb-true}
+use Rattle.winners.specs.Finding.{hintAt, firstTo, Finding, Searching, Tries, Finished, Round, Won, Nothing, Numbered}
 
 -- the plan stands between the slots and the least values
 plan-same : (w v : List ℕ) → length v ≡ length w → ((i : ℕ) → 4096 ≤ i → i < countsAt → getD v i 0 ≡ getD w i 0) → plan v ≡ plan w
@@ -63,18 +66,29 @@ plan-same w v n same =
 
 -- ---- one test more
 
-module _ (t : Table) (mode k : ℕ) (hint : ℤ) where
+module _ (t : Table) (mode k : ℕ) (hint : ℕ → ℤ) where
   first-none : firstTo t mode k hint 0 ≡ []
   unfolding firstTo gather parts.below those rankTop
   first-none = refl
 
-  first-more : (n : ℕ) → rankTop (by (slackIn t mode)) k (firstTo t mode k hint n) (those (below (slackIn t mode) hint) (testPaths (structure t) n)) ≡ firstTo t mode k hint (n + 1)
+  -- those of one test are those below its hint
+  those-test : (n : ℕ) → those (kept (slackIn t mode) (λ (p : Path). hint (p .test))) (testPaths (structure t) n) ≡ those (below (slackIn t mode) (hint n)) (testPaths (structure t) n)
+  unfolding testPaths
+  those-test n =
+      those-cong (kept (slackIn t mode) (λ (p : Path). hint (p .test))) (below (slackIn t mode) (hint n)) (testPaths (structure t) n)
+      (λ p i.
+      let r = in-each (path n) p (walks (structure t) (dataPin (structure t) n)) i in
+      ap (λ (j : ℕ). ltZ (slackIn t mode p) (hint j)) (ap (λ (q : Path). q .test) (r .2)))
+
+  first-more : (n : ℕ) → rankTop (by (slackIn t mode)) k (firstTo t mode k hint n) (those (below (slackIn t mode) (hint n)) (testPaths (structure t) n)) ≡ firstTo t mode k hint (n + 1)
   unfolding firstTo
   first-more n =
       let key = slackIn t mode in
+      let in-hint = kept key (λ (p : Path). hint (p .test)) in
       let l = gather (testPaths (structure t)) (parts.below n) in
-      sym (top-append (by key) k [] (those (below key hint) l) (those (below key hint) (testPaths (structure t) n)))
-      ∙ ap (rankTop (by key) k []) (sym (those-join (below key hint) l (testPaths (structure t) n)) ∙ ap (those (below key hint)) (sym (gather-more (testPaths (structure t)) n)))
+      ap (rankTop (by key) k (rankTop (by key) k [] (those in-hint l))) (sym (those-test n))
+      ∙ sym (top-append (by key) k [] (those in-hint l) (those in-hint (testPaths (structure t) n)))
+      ∙ ap (rankTop (by key) k []) (sym (those-join in-hint l (testPaths (structure t) n)) ∙ ap (those in-hint) (sym (gather-more (testPaths (structure t)) n)))
 
   later : (test serial : ℕ) (l : List Candidate) (m : List Path) → Both (Told (slackIn t mode) test serial) l m → Both (Told (slackIn t mode) (test + 1) serial) l m
   later test serial [] [] b = tt
@@ -99,7 +113,7 @@ module _ (t : Table) (mode k : ℕ) (hint : ℤ) where
       }
 
   pub finding-more : (j : ℕ) (w u v : List ℕ) (list : List Candidate) (count serial : ℕ) (slots : List ℕ) (list′ : List Candidate) (count′ serial′ : ℕ) (slots′ : List ℕ) (out : ℕ)
-      → Finding t mode k hint j w list count serial slots → Lay t mode j w u → Added t mode j k hint u list count serial slots v list′ count′ serial′ slots′ out → Still u v
+      → Finding t mode k hint j w list count serial slots → Lay t mode j w u → Added t mode j k (hint j) u list count serial slots v list′ count′ serial′ slots′ out → Still u v
       → Finding t mode k hint (j + 1) v list′ count′ serial′ slots′
   finding-more j w u v list count serial slots list′ count′ serial′ slots′ out F L A K =
       let H = F .holds in
@@ -118,7 +132,7 @@ module _ (t : Table) (mode k : ℕ) (hint : ℤ) where
               places = M .places;
               counted = M .counted;
               few = M .few;
-              both = later j serial′ (take count′ list′) (rankTop (by (slackIn t mode)) k (firstTo t mode k hint j) (those (below (slackIn t mode) hint) (testPaths (structure t) j))) (M .both);
+              both = later j serial′ (take count′ list′) (rankTop (by (slackIn t mode)) k (firstTo t mode k hint j) (those (below (slackIn t mode) (hint j)) (testPaths (structure t) j))) (M .both);
               sorted = M .sorted;
             });
         stored = rw (← first-more j) (R .1);
@@ -132,13 +146,53 @@ module _ (t : Table) (mode k : ℕ) (hint : ℤ) where
             arcs = λ i l. L .slots (slot * 256 + 1 + i) (omega (arith, S .few)) ∙ S .arcs i l;
           }
 
-  -- ---- behind the last
+-- ---- behind the last
 
-  -- where k paths are found, or all are below the hint, the list holds the first k of all paths
-  pub first-found : (length (firstTo t mode k hint (testCount t)) ≡ k) ⊎ All (λ p. below (slackIn t mode) hint p ≡ true) (paths (structure t))
-      → firstTo t mode k hint (testCount t) ≡ firstPaths (modeOf mode) (structure t) (times t) k
-  unfolding firstTo firstPaths ranked paths
-  first-found h = rw (← tests-is t) (top-under (slackIn t mode) hint k (gather (testPaths (structure t)) (parts.below (tests (structure t)))) (rw (← tests-is t) at h))
+-- all paths of the tests below n, in the order of the tie rule
+unfoldable pub allTo : Table → ℕ → List Path
+allTo t n = gather (testPaths (structure t)) (parts.below n)
+
+-- the hints fall along them
+module _ (t : Table) (mode : ℕ) (high low : ℤ) (last : ℕ) (near : Within 0 low high × Within 1 high low) where
+  abbrev pub hintOf : Path → ℤ
+  hintOf p = hintAt high low last (p .test)
+
+  hint-near : (p : Path) → Near (slackIn t mode) hintOf low p
+  unfolding hintAt pick
+  hint-near p = by-test (ltb last (p .test)) (λ e. rw e (omega arith, omega arith)) (λ e. rw e near)
+
+  hint-falls : (p q : Path) → p .test ≤ q .test → Falls (slackIn t mode) hintOf p q
+  unfolding hintAt pick
+  hint-falls p q h =
+      by-test (ltb last (p .test))
+      (λ e. let f : ltb last (q .test) ≡ true = lt-ltb last (q .test) (omega (arith, ltb-true last (p .test) e)) in rw (e, f) (omega arith))
+      (λ e. by-test (ltb last (q .test)) (λ f. rw (e, f) (near .0)) (λ f. rw (e, f) (omega arith)))
+
+  of-test : (n : ℕ) (p : Path) → In p (testPaths (structure t) n) → p .test ≡ n
+  unfolding testPaths
+  of-test n p i = ap (λ (q : Path). q .test) (in-each (path n) p (walks (structure t) (dataPin (structure t) n)) i .2)
+
+  falls : (n : ℕ) → Pairs (Falls (slackIn t mode) hintOf) (allTo t n)
+  unfolding allTo
+  falls n =
+      pairs-gather (Falls (slackIn t mode) hintOf) (testPaths (structure t)) (parts.below n)
+      (λ j i. pairs-all (Falls (slackIn t mode) hintOf) (testPaths (structure t) j) (λ p q a b. hint-falls p q (omega (arith, of-test j p a, of-test j q b))))
+      (pairs-map _<_ (λ i j. (p q : Path) → In p (testPaths (structure t) i) → In q (testPaths (structure t) j) → Falls (slackIn t mode) hintOf p q)
+      (λ i j h p q a b. hint-falls p q (omega (arith, of-test i p a, of-test j q b))) (parts.below n) (pairs-below n))
+
+  -- where k paths are found, or all are below their hints, the list holds the first k of all paths
+  pub first-found : (k : ℕ) → (length (firstTo t mode k (hintAt high low last) (testCount t)) ≡ k)
+      ⊎ All (λ p. kept (slackIn t mode) hintOf p ≡ true) (allTo t (testCount t))
+      → firstTo t mode k (hintAt high low last) (testCount t) ≡ firstPaths (modeOf mode) (structure t) (times t) k
+  unfolding firstTo firstPaths ranked paths allTo
+  first-found k (inl e) =
+      rw (← tests-is t)
+      (top-falling (slackIn t mode) hintOf low k (allTo t (tests (structure t))) (falls (tests (structure t)))
+      (of-all (Near (slackIn t mode) hintOf low) (allTo t (tests (structure t))) (λ p i. hint-near p))
+      (rw (← tests-is t) at e))
+  first-found k (inr a) =
+      rw (← tests-is t)
+      (rw (those-all (kept (slackIn t mode) hintOf) (allTo t (tests (structure t))) (rw (← tests-is t) at a)) (top-is (slackIn t mode) k (allTo t (tests (structure t)))))
 
 -- ---- the slots, numbered
 
@@ -169,14 +223,14 @@ lesser a b c e =
 
 -- ---- what was passed over
 
-module _ (t : Table) (mode k : ℕ) (hint : ℤ) where
+module _ (t : Table) (mode k : ℕ) (hint : ℕ → ℤ) where
   pub searching-none : (w : List ℕ) (list : List Candidate) (count serial : ℕ) (slots : List ℕ) (out : ℤ) → 0 < k → k ≤ 16 → Prepared t mode w → Nothing list count slots
       → Searching t mode k hint 0 w list count serial slots out
   unfolding gather parts.below
   searching-none w list count serial slots out a b P N = record { finding = finding-none t mode k hint w list count serial slots a b P N; past = λ p i. absurd i }
 
   pub searching-more : (j : ℕ) (w u v : List ℕ) (list : List Candidate) (count serial : ℕ) (slots : List ℕ) (out : ℤ) (list′ : List Candidate) (count′ serial′ : ℕ) (slots′ : List ℕ) (least : ℕ)
-      (slack : ℤ) → Searching t mode k hint j w list count serial slots out → Lay t mode j w u → Added t mode j k hint u list count serial slots v list′ count′ serial′ slots′ least → Still u v
+      (slack : ℤ) → Searching t mode k hint j w list count serial slots out → Lay t mode j w u → Added t mode j k (hint j) u list count serial slots v list′ count′ serial′ slots′ least → Still u v
       → ((v : ℕ) → v < 1073741824 → least ≤ v → Within 0 slack (slackOf t mode j v))
       → (out′ : ℤ) → out′ ≡ pick (ltZ out slack) out slack → Searching t mode k hint (j + 1) v list′ count′ serial′ slots′ out′
   searching-more j w u v list count serial slots out list′ count′ serial′ slots′ least slack S L A K f out′ e =
@@ -190,17 +244,20 @@ module _ (t : Table) (mode k : ℕ) (hint : ℤ) where
             (in-either p (gather (testPaths s) (parts.below j)) (testPaths s j) (rw (gather-more (testPaths s) j) at i));
       }
     where
-      new : (p : Path) → In p (testPaths (structure t) j) → Within 0 out′ slack → Less (slackIn t mode p) hint ⊎ Within 0 out′ (slackIn t mode p)
+      new : (p : Path) → In p (testPaths (structure t) j) → Within 0 out′ slack → Less (slackIn t mode p) (hint (p .test)) ⊎ Within 0 out′ (slackIn t mode p)
       new p a lo = unfold testPaths in
           let r = in-each (path j) p (walks (structure t) (dataPin (structure t) j)) a in
           let x = valueOf (structure t) (weighing t mode) (testSeed t mode j) (r .0) in
           let z : slackIn t mode p ≡ slackOf t mode j x = ap (slackIn t mode) (r .2) ∙ slack-is t mode j u (L .walks) (r .0) (r .1) in
+          let y : p .test ≡ j = ap (λ (q : Path). q .test) (r .2) in
+          let g : Less (slackIn t mode p) (hint j) ⊎ Within 0 out′ (slackIn t mode p) =
           rw z
-          (⊎-elim (λ b. inl b) (λ b. let g = f x (value-low t mode j u (L .walks) (r .0) (r .1)) b in inr (omega arith)) (A .past (r .0) (r .1)))
+          (⊎-elim (λ b. inl b) (λ b. let g = f x (value-low t mode j u (L .walks) (r .0) (r .1)) b in inr (omega arith)) (A .past (r .0) (r .1))) in
+          ⊎-elim (λ b. inl (subst (λ (i : ℕ). Less (slackIn t mode p) (hint i)) (sym y) b)) inr g
 
   -- a test that is left out: each of its paths is not below the hint, or not below the last slack of a full list
   pub searching-skip : (j bound : ℕ) (w : List ℕ) (list : List Candidate) (count serial : ℕ) (slots : List ℕ) (out limit : ℤ) → Tries t mode k hint j bound w list count serial slots out
-      → Limit k hint list count limit → Within 0 limit (slackOf t mode j bound)
+      → Limit k (hint j) list count limit → Within 0 limit (slackOf t mode j bound)
       → (out′ : ℤ) → out′ ≡ pick (ltZ out (slackOf t mode j bound)) out (slackOf t mode j bound) → Searching t mode k hint (j + 1) w list count serial slots out′
   unfolding testPaths those each rankTop weighing
   searching-skip j bound w list count serial slots out limit T L g out′ e =
@@ -216,10 +273,10 @@ module _ (t : Table) (mode k : ℕ) (hint : ℤ) where
       let r = in-each (path j) p (walks s (dataPin s j)) i in
       rw (ap (slackIn t mode) (r .2) ∙ slack-valued t mode j h (T .test) (r .0) (r .1))
       (slack-of t mode j bound (valueOf s (weighing t mode) (testSeed t mode j) (r .0)) (T .bounds .least (r .0) (r .1))) in
-      let out : All (Out (slackIn t mode) hint k l) P =
-      of-all _ P (λ p i. out-of t mode k j serial hint list count l p H (F .sized .some) (L .over (slackIn t mode p) (omega (arith, above p i)))) in
-      let z : rankTop (by (slackIn t mode)) k l (those (below (slackIn t mode) hint) P) ≡ l =
-      rw (append-nil P) at (top-cut (slackIn t mode) hint k l P [] out) in
+      let out : All (Out (slackIn t mode) (hint j) k l) P =
+      of-all _ P (λ p i. out-of t mode k j serial (hint j) list count l p H (F .sized .some) (L .over (slackIn t mode p) (omega (arith, above p i)))) in
+      let z : rankTop (by (slackIn t mode)) k l (those (below (slackIn t mode) (hint j)) P) ≡ l =
+      rw (append-nil P) at (top-cut (slackIn t mode) (hint j) k l P [] out) in
       let y : firstTo t mode k hint (j + 1) ≡ l = sym (first-more t mode k hint j) ∙ z in
       record {
         finding = record {
@@ -237,27 +294,34 @@ module _ (t : Table) (mode k : ℕ) (hint : ℤ) where
 
 -- ---- when it is the answer
 
--- a full list, or nothing passed over that a slack can be, or a hint above every slack: the list holds the first k of all paths
-pub searched : (t : Table) (mode k : ℕ) (hint : ℤ) (w : List ℕ) (list : List Candidate) (count serial : ℕ) (slots : List ℕ) (out : ℤ)
-    → Searching t mode k hint (testCount t) w list count serial slots out → (count ≡ k) ⊎ (Less (pos 257000000) out ⊎ Less (pos 257000000) hint)
-    → firstTo t mode k hint (testCount t) ≡ firstPaths (modeOf mode) (structure t) (times t) k
-searched t mode k hint w list count serial slots out S (inl e) = first-found t mode k hint (inl (sym (S .finding .holds .counted) ∙ e))
-searched t mode k hint w list count serial slots out S (inr o) = first-found t mode k hint (inr (of-all _ (paths (structure t)) (λ p i. all-below p i)))
+-- a full list, or nothing passed over that a slack can be, or hints above every slack: the list holds the first k of all paths
+pub searched : (t : Table) (mode k : ℕ) (high low : ℤ) (last : ℕ) (w : List ℕ) (list : List Candidate) (count serial : ℕ) (slots : List ℕ) (out : ℤ)
+    → Within 0 low high × Within 1 high low → Searching t mode k (hintAt high low last) (testCount t) w list count serial slots out
+    → (count ≡ k) ⊎ (Less (pos 257000000) out ⊎ Less (pos 257000000) low)
+    → firstTo t mode k (hintAt high low last) (testCount t) ≡ firstPaths (modeOf mode) (structure t) (times t) k
+searched t mode k high low last w list count serial slots out near S (inl e) = first-found t mode high low last near k (inl (sym (S .finding .holds .counted) ∙ e))
+searched t mode k high low last w list count serial slots out near S (inr o) =
+    first-found t mode high low last near k (inr (of-all _ (allTo t (testCount t)) (λ p i. all-below p i)))
   where
-    all-below : (p : Path) → In p (paths (structure t)) → below (slackIn t mode) hint p ≡ true
-    all-below p i =
+    all-below : (p : Path) → In p (allTo t (testCount t)) → kept (slackIn t mode) (hintOf t mode high low last near) p ≡ true
+    all-below p i = unfold allTo in
         let a = accepted t (S .finding .prepared .clocked .ready .checked) in
-        let m = le-within (slackIn t mode p) (pos 257000000) (slack-bounds (structure t) (a .sound) (times t) (a .ranged) (modeOf mode) p i .not-over) in
-        let q : In p (gather (testPaths (structure t)) (parts.below (testCount t))) = unfold paths in rw (tests-is t) at i in
+        let q : In p (paths (structure t)) = unfold paths in rw (tests-is t) i in
+        let m = le-within (slackIn t mode p) (pos 257000000) (slack-bounds (structure t) (a .sound) (times t) (a .ranged) (modeOf mode) p q .not-over) in
         ⊎-elim
-        (λ b. ⊎-elim (λ c. less-below (slackIn t mode p) hint c) (λ c. absurd (omega arith)) (S .past p q))
-        (λ b. less-below (slackIn t mode p) hint (omega arith))
+        (λ b. ⊎-elim (λ c. less-below (slackIn t mode p) (hintAt high low last (p .test)) c) (λ c. absurd (omega arith)) (S .past p i))
+        (λ b. less-below (slackIn t mode p) (hintAt high low last (p .test)) (omega (arith, hint-near t mode high low last near p .0)))
         o
 
 -- and then the paths are won
-pub won : (t : Table) (mode k : ℕ) (hint : ℤ) (w : List ℕ) (list : List Candidate) (count serial : ℕ) (slots : List ℕ) (out : ℤ)
-    → Searching t mode k hint (testCount t) w list count serial slots out → (count ≡ k) ⊎ (Less (pos 257000000) out ⊎ Less (pos 257000000) hint) → Won t mode k w list count slots
-won t mode k hint w list count serial slots out S o =
-    let F = S .finding in
-    let e = searched t mode k hint w list count serial slots out S o in
+pub won : (t : Table) (mode k rounds : ℕ) (w : List ℕ) (list : List Candidate) (count serial : ℕ) (slots : List ℕ) (out : ℤ)
+    → Round t mode k rounds w list count serial slots out → Finished rounds count k out → Won t mode k w list count slots
+won t mode k rounds w list count serial slots out R f =
+    let F = R .searching .finding in
+    let e = searched t mode k (R .high) (R .low) (R .last) w list count serial slots out (R .near) (R .searching) (ends f) in
     record { prepared = F .prepared; shelf = F .shelf; serial = serial; holds = rw e at (F .holds); stored = rw e at (F .stored) }
+  where
+    ends : Finished rounds count k out → (count ≡ k) ⊎ (Less (pos 257000000) out ⊎ Less (pos 257000000) (R .low))
+    ends (inl e) = inr (inr (R .ends e))
+    ends (inr (inl h)) = inl (omega (arith, R .searching .finding .sized .few))
+    ends (inr (inr h)) = inr (inl h)
