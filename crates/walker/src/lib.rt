@@ -102,26 +102,38 @@ fn over(work: &mut [u64], c: Cursor, under: u64) -> Cursor
     let from = (word / 1024 % 256) as usize;
     let sum = c.sum + word / 262144;
     let least = sum + work[area::LEASTS + from];
-    let mut r = c;
-    r.value = area::NONE;
-    r.more = true;
     if under <= least {
-        r.place = place + 1;
-        r.out = lesser(c.out, least);
-        return r;
+        return Cursor {
+            depth: depth,
+            pin: pin,
+            place: place + 1,
+            sum: c.sum,
+            value: area::NONE,
+            more: true,
+            out: lesser(c.out, least),
+        };
     }
     if work[area::SEEDS + from] < area::NONE {
-        r.place = place + 1;
-        r.value = least;
-        r.more = false;
-        return r;
+        return Cursor {
+            depth: depth,
+            pin: pin,
+            place: place + 1,
+            sum: c.sum,
+            value: least,
+            more: false,
+            out: c.out,
+        };
     }
     work[TURNS + depth] = turn(pin, place);
-    r.depth = depth + 1;
-    r.pin = from;
-    r.place = work[area::FIRSTS + from] as usize;
-    r.sum = sum;
-    r
+    Cursor {
+        depth: depth + 1,
+        pin: from,
+        place: work[area::FIRSTS + from] as usize,
+        sum: sum,
+        value: area::NONE,
+        more: true,
+        out: c.out,
+    }
 }
 
 // No arc is left at the cursor: back to the turn before, or to the end.

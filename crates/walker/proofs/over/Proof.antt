@@ -42,8 +42,8 @@ add-least-2 c =
     let b = c .before .before .before .before in
     omega (arith, safe (b .args .work .now) (b .args .c) (b .pre .0), safe-least (b .args .work .now) (b .args .c) (b .pre .0) (b .pre .2), c .slice-known3 .given (4096 + b .args .c .place))
 
-add-r : tie.Need-add-r
-add-r c =
+add-t18 : tie.Need-add-t18
+add-t18 c =
     let b = c .before .before .before .before .before in
     omega (arith, safe (b .args .work .now) (b .args .c) (b .pre .0))
 
@@ -64,8 +64,8 @@ mul-if2 c = search needs
 slice-read-if2 : tie.Need-slice-read-if2
 slice-read-if2 c = search needs
 
-add-r-2 : tie.Need-add-r-2
-add-r-2 c =
+add-t21 : tie.Need-add-t21
+add-t21 c =
     let b = c .before .before .before .before .before .before .before in
     omega (arith, safe (b .args .work .now) (b .args .c) (b .pre .0))
 
@@ -94,19 +94,19 @@ slice-write-work c =
     let b = c .before .before .before .before .before .before .before .before in
     omega (arith, safe (b .args .work .now) (b .args .c) (b .pre .0))
 
-add-r-3 : tie.Need-add-r-3
-add-r-3 c =
+add-t11 : tie.Need-add-t11
+add-t11 c =
     let b = c .before .before .before .before .before .before .before .before in
     omega (arith, safe (b .args .work .now) (b .args .c) (b .pre .0))
 
-add-r-4 : tie.Need-add-r-4
-add-r-4 c = search needs
+add-t12 : tie.Need-add-t12
+add-t12 c = search needs
 
-mul-r : tie.Need-mul-r
-mul-r c = search needs
+mul-t23 : tie.Need-mul-t23
+mul-t23 c = search needs
 
-slice-read-r : tie.Need-slice-read-r
-slice-read-r c =
+slice-read-t15 : tie.Need-slice-read-t15
+slice-read-t15 c =
     let b = c .before .before .before .before .before .before .before .before .before in
     rw (length-set (b .args .work .now) (7425 + b .args .c .depth) (c .before .turn .result)) (omega (arith, safe (b .args .work .now) (b .args .c) (b .pre .0)))
 
@@ -131,21 +131,21 @@ over-spec =
     mul-least
     slice-read-least
     add-least-2
-    add-r
+    add-t18
     lesser-requires
     returns
     add-if2
     mul-if2
     slice-read-if2
-    add-r-2
+    add-t21
     returns-2
     turn-requires
     add-work
     mul-work
     slice-write-work
-    add-r-3
-    add-r-4
-    mul-r
-    slice-read-r
+    add-t11
+    add-t12
+    mul-t23
+    slice-read-t15
     same-length
     returns-3)
