@@ -8,11 +8,12 @@ use Rattle.timing.specs.Structure.{Structure, pins, arcs, leaves, enters}
 use Rattle.area.specs.Area.{none, plan, wordAt, firstAt, seedAt, fromIn, weightIn, countsAt, clocksAt}
 use Rattle.walker.specs.Cursors.{Planned, Lower, leastAt}
 
--- the arcs into v stand where the work area says
+-- the arcs into v stand where the work area says, and the numbers of the pins that they leave stand too
 pub record Into (w : List ℕ) (v : ℕ) : Type 0 where
   pub long : clocksAt ≤ length w
   pub pin : v < 256
   pub fits : firstAt (plan w) (v + 1) ≤ 1024
+  pub low : (i : ℕ) → firstAt (plan w) v ≤ i → i < firstAt (plan w) (v + 1) → leastAt w (fromIn (wordAt (plan w) i)) ≤ none
 
 -- r is at most what each arc into pin v brings
 pub record Least (w : List ℕ) (v r : ℕ) : Type 0 where

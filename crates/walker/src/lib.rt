@@ -45,11 +45,8 @@ fn least_into(work: &[u64], v: usize) -> u64
     let mut least = area::NONE;
     while i < end {
         let word = work[area::ARCS + i];
-        let from = lesser(
-            work[area::LEASTS + (word / 1024 % 256) as usize],
-            area::NONE,
-        );
-        least = lesser(least, from + word / 262144);
+        let from = area::from_in(word);
+        least = lesser(least, work[area::LEASTS + from] + area::weight_in(word));
         i += 1;
     }
     least

@@ -38,19 +38,28 @@ so-none w v h =
       so-far = λ k a c. absurd (omega arith);
     }
 
-pub so-more : (w : List ℕ) (v e i n r q : ℕ) → So w v e i n → i < 1024 → r ≤ getD w (5633 + getD w (4096 + i) 0 / 1024 % 256) 0 → q ≤ n → q ≤ r + getD w (4096 + i) 0 / 262144
-    → So w v e (i + 1) q
-so-more w v e i n r q s k c h g =
-    let z : wordAt (plan w) i ≡ getD w (4096 + i) 0 = word-at w i k in
-    record {
-      here = omega (arith, s .here);
-      stop = s .stop;
-      most = omega (arith, s .most);
-      so-far = λ k a b. elim (ℕ-discrete k i) [
-        | yes e ↦ rw (e, z) (omega arith)
-        | no e ↦ omega (arith, s .so-far k a (omega arith))
-      ];
-    }
+-- u and g are the pin that the arc at place i leaves and what the arc weighs
+module _ (w : List ℕ) (v e i n u g : ℕ) (s : So w v e i n) (h : i < e) (I : Into w v) (x : u ≡ fromIn (getD w (4096 + i) 0)) (y : g ≡ weightIn (getD w (4096 + i) 0)) where
+  so-low : i < 1024
+  so-low = omega (arith, s .stop, I .fits)
+
+  so-from : fromIn (wordAt (plan w) i) ≡ u
+  so-from = rw (word-at w i so-low) (sym x)
+
+  pub so-small : leastAt w u ≤ none
+  so-small = rw so-from at (I .low i (s .here) (omega (arith, s .stop)))
+
+  pub so-more : (q : ℕ) → q ≤ n → q ≤ leastAt w u + g → So w v e (i + 1) q
+  so-more q c d =
+      record {
+        here = omega (arith, s .here);
+        stop = s .stop;
+        most = omega (arith, s .most);
+        so-far = λ k a b. elim (ℕ-discrete k i) [
+          | yes z ↦ rw (z, so-from, word-at w i so-low, ← y) d
+          | no z ↦ omega (arith, s .so-far k a (omega arith))
+        ];
+      }
 
 pub so-all : (w : List ℕ) (v e i n : ℕ) → So w v e i n → e ≤ i → Least w v n
 so-all w v e i n s h = record { most = s .most; under = λ k a b. s .so-far k a (omega (arith, s .stop)) }
@@ -153,12 +162,13 @@ leasts-all w₀ w p v l h S = record { beside = S .beside; lower = λ s weight s
 
 pub into-asks : (w₀ w : List ℕ) (p v : ℕ) → Laid w₀ p → Leasts w₀ w v → v < p → Into w v
 into-asks w₀ w p v R S h =
-    let P = R .planned in
+    let P : Planned (R .of) (R .weight) (R .seed) (plan w) = rw (plan-beside w₀ w (R .long) (S .beside)) (R .planned) in
     let q : v < pins (R .of) = omega (arith, R .size) in
     record {
       long = omega (arith, R .long, S .beside .long);
       pin = omega (arith, P .ok .few-pins);
-      fits = rw (plan-beside w₀ w (R .long) (S .beside)) (P .by-arcs .fits v q);
+      fits = P .by-arcs .fits v q;
+      low = λ i a b. S .are (fromIn (wordAt (plan w) i)) (falls (R .of) (R .weight) (R .seed) (R .rises) (plan w) P v i q a b) .most;
     }
 
 pub leasts-none : (w : List ℕ) → Leasts w w 0
