@@ -1,9 +1,5 @@
--- The k-best table of one test: how it stands in the work area, what it is made from, and what its rows stand for.
-pub mod Entries
+-- The arcs of a table, sorted by the pin that they enter, and the number of walks from each pin.
 pub mod Laid
-pub mod Steps
-pub mod Asked
 pub mod Sorting
-pub mod Decoded
+pub mod Counting
 pub mod Laws
-pub mod Theorem
