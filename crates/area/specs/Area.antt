@@ -28,11 +28,11 @@ none = 1152921504606846976
 
 -- ---- where the parts begin
 
-abbrev pub slot : ℕ
-slot = mostPins
+abbrev pub slotAt : ℕ → ℕ
+slotAt n = n * mostPins
 
 abbrev pub arcsAt : ℕ
-arcsAt = mostK * slot
+arcsAt = slotAt mostK
 
 abbrev pub firstsAt : ℕ
 firstsAt = arcsAt + mostArcs

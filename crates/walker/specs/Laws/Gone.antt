@@ -10,9 +10,9 @@ use Rattle.lists.specs.Laws.Member.{all-app, all-map}
 use Rattle.timing.specs.Structure.{Structure, pins}
 use Rattle.timing.specs.Paths.{walks}
 use Rattle.timing.specs.Value.{valueOf}
-use Rattle.area.specs.Area.{none, plan, firstAt}
-use Rattle.engine.specs.Laws.Made.{first-at}
-use Rattle.walker.specs.Rest.{turnsEnd, turns, came}
+use Rattle.area.specs.Area.{none, plan, firstAt, firstsAt, turnsEnd}
+use Rattle.area.specs.Laws.Plan.{first-at}
+use Rattle.walker.specs.Rest.{turns, came}
 use Rattle.walker.specs.Cursors.{Planned, Lower, leastAt, beginAt, On, Ready, coming, found, Kept, Gone}
 use Rattle.walker.specs.Laws.Rest.{rest-all}
 use Rattle.walker.specs.Laws.Steps.{cursor, kept-none, found-none}
@@ -73,7 +73,7 @@ gone-more under u v w a b c e G H s weight seed O =
 -- before the first walk
 
 module _ (s : Structure) (weight seed : ℕ → ℕ) (w : List ℕ) (v : ℕ) (P : Planned s weight seed (plan w)) (h : v < pins s) where
-  first-is : getD w (5120 + v) 0 ≡ firstAt (plan w) v
+  first-is : getD w (firstsAt + v) 0 ≡ firstAt (plan w) v
   first-is = sym (first-at w v (omega (arith, P .ok .few-pins)))
 
   pub begin-on : Lower s weight seed (leastAt w) → turnsEnd ≤ length w → On s weight seed w (beginAt w v)
