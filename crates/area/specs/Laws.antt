@@ -1,2 +1,3 @@
 -- The laws of the definitions.
+pub mod Kept
 pub mod Plan

@@ -13,6 +13,7 @@ use Rattle.timing.specs.Paths.{isStart}
 use Rattle.timing.specs.Value.{valueOf}
 use Rattle.timing.specs.Laws.Sound.{Sound}
 use Rattle.area.specs.Area.{none, plan, wordAt, firstAt, arcIn, leastsAt, firstsAt, turnsAt, turnsEnd}
+use Rattle.area.specs.Area as area
 use Rattle.engine.specs.Laid.{Arcs, Seeds}
 use Rattle.walker.specs.Rest.{pinIn, placeIn, turns, onto, came, rest, size}
 use Rattle.walker.specs.declared.Cursor.{Cursor}
@@ -101,10 +102,8 @@ pub record Passed (s : Structure) (weight seed : ℕ → ℕ) (under : ℕ) (bef
   pub taken : c .value < none → firstAt (plan w) (c .pin) < c .place
 
 -- nothing is new in the work area but the turns
-pub record Kept (w₀ w : List ℕ) : Type 0 where
-  pub long : length w ≡ length w₀
-  pub front : (i : ℕ) → i < turnsAt → getD w i 0 ≡ getD w₀ i 0
-  pub back : (i : ℕ) → turnsEnd ≤ i → getD w i 0 ≡ getD w₀ i 0
+abbrev pub Kept : List ℕ → List ℕ → Type 0
+Kept = area.Kept turnsAt turnsEnd
 
 pub record Went (s : Structure) (weight seed : ℕ → ℕ) (under : ℕ) (w₀ : List ℕ) (c₀ : Cursor) (w : List ℕ) (c : Cursor) : Type 0 where
   pub on : On s weight seed w c

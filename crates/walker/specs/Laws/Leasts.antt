@@ -12,6 +12,7 @@ use Rattle.timing.specs.Structure.{Structure, pins, arcs, leaves, enters}
 use Rattle.timing.specs.Clock.{into}
 use Rattle.timing.specs.Laws.Routes.{into-into}
 use Rattle.area.specs.Area.{none, plan, wordAt, firstAt, seedAt, fromIn, weightIn, arcIn, leastsAt, clocksAt, arcsAt, firstsAt, seedsAt, planLength}
+use Rattle.area.specs.Laws.Kept.{kept-none, kept-set}
 use Rattle.area.specs.Laws.Plan.{word-at, first-at, seed-at, plan-same, plan-kept}
 use Rattle.walker.specs.Cursors.{Planned, Lower, leastAt}
 use Rattle.walker.specs.Leasts.{Into, Least, LeastAt, Rises, Laid, Beside, Leasts, AllLeasts}
@@ -64,17 +65,6 @@ so-all w v e i n s h = record { most = s .most; under = λ k a b. s .so-far k a 
 
 -- ---- the pins, one after another
 
-pub beside-none : (w : List ℕ) → Beside w w
-beside-none w = record { long = refl; front = λ i h. refl; back = λ i h. refl }
-
-pub beside-set : (w₀ w : List ℕ) (v x : ℕ) → v < 256 → Beside w₀ w → Beside w₀ (set w (leastsAt + v) x)
-beside-set w₀ w v x h B =
-    record {
-      long = length-set w (leastsAt + v) x ∙ B .long;
-      front = λ i l. getD-set-other w (leastsAt + v) i x 0 (λ q. omega arith) ∙ B .front i l;
-      back = λ i l. getD-set-other w (leastsAt + v) i x 0 (λ q. omega arith) ∙ B .back i l;
-    }
-
 plan-set : (w : List ℕ) (v x : ℕ) → clocksAt ≤ length w → plan (set w (leastsAt + v) x) ≡ plan w
 plan-set w v x h =
     plan-kept (set w (leastsAt + v) x) w (omega (arith, length-set w (leastsAt + v) x)) (omega arith) (take-set-le leastsAt w (leastsAt + v) x (omega arith))
@@ -109,7 +99,7 @@ module _ (s : Structure) (weight seed : ℕ → ℕ) (up : Rises s) where
             });
       } in
       record {
-        beside = beside-set w₀ w v x (omega arith) (S .beside);
+        beside = kept-set leastsAt clocksAt w₀ w (leastsAt + v) x (S .beside) (omega arith) (omega arith);
         are = λ u h. elim (ℕ-discrete u v) [
           | yes z ↦ rw (z, getD-set-same w (leastsAt + v) x 0 (omega arith)) (moved v x (omega arith) q I)
           | no z ↦ rw (other u z) (moved u (leastAt w u) (omega arith) (omega arith) (S .are u (omega arith)))
@@ -157,7 +147,7 @@ into-asks w₀ w p v R S h =
     }
 
 pub leasts-none : (w : List ℕ) → Leasts w w 0
-leasts-none w = record { beside = beside-none w; are = λ u h. absurd (omega arith) }
+leasts-none w = record { beside = kept-none leastsAt clocksAt w; are = λ u h. absurd (omega arith) }
 
 pub leasts-next : (w₀ w : List ℕ) (p v x : ℕ) → Laid w₀ p → Leasts w₀ w v → v < p → LeastAt w v x → Leasts w₀ (set w (leastsAt + v) x) (v + 1)
 leasts-next w₀ w p v x R S h I =

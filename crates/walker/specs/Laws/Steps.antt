@@ -19,9 +19,10 @@ use Rattle.timing.specs.Value.{valueOf}
 use Rattle.timing.specs.Laws.Steps.{walksOver}
 use Rattle.timing.specs.Laws.Least.{value-start}
 use Rattle.area.specs.Area.{none, plan, wordAt, firstAt, seedAt, weightIn, fromIn, arcIn, arcsAt, firstsAt, seedsAt, leastsAt, turnsAt, turnsEnd}
+use Rattle.area.specs.Laws.Kept.{kept-none, kept-set}
 use Rattle.area.specs.Laws.Plan.{word-at, first-at, seed-at, plan-kept}
 use Rattle.walker.specs.Rest.{turn, pinIn, placeIn, turns, onto, came}
-use Rattle.walker.specs.Cursors.{Planned, Lower, leastAt, Turned, On, Ready, coming, walkAt, walkOf, found, reach, Kept, Went, Step}
+use Rattle.walker.specs.Cursors.{Planned, Lower, leastAt, Turned, On, Ready, coming, walkAt, walkOf, found, reach, Went, Step}
 use Rattle.walker.specs.Laws.Rest.{Read, read, rest-more, rest-start, rest-back, rest-none, rest-deeper}
 use Rattle.walker.specs.Laws.Least.{value-onto, bound-over}
 use Rattle.walker.specs.Laws.Size.{size-past, size-deeper, size-back}
@@ -48,17 +49,6 @@ unfolding turns
 turns-more d x w h = ap₂ (λ (a : ℕ) (l : List ℕ). a ∷ l) (getD-set-same w (turnsAt + d) x 0 h) (turns-set d d x w (omega arith))
 
 -- ---- what a turn leaves of the work area
-
-pub kept-none : (w : List ℕ) → Kept w w
-kept-none w = record { long = refl; front = λ i h. refl; back = λ i h. refl }
-
-kept-turn : (w : List ℕ) (d x : ℕ) → d < 256 → Kept w (set w (turnsAt + d) x)
-kept-turn w d x h =
-    record {
-      long = length-set w (turnsAt + d) x;
-      front = λ i l. getD-set-other w (turnsAt + d) i x 0 (λ q. omega arith);
-      back = λ i l. getD-set-other w (turnsAt + d) i x 0 (λ q. omega arith);
-    }
 
 plan-turn : (w : List ℕ) (d x : ℕ) → turnsEnd ≤ length w → plan (set w (turnsAt + d) x) ≡ plan w
 plan-turn w d x h =
@@ -215,7 +205,7 @@ module _ (under : ℕ) (w : List ℕ) (c : Cursor) (h : c .place < getD w (first
             turned = O .turned;
             sum = O .sum;
           };
-          kept = kept-none w;
+          kept = kept-none turnsAt turnsEnd w;
           falls = oc;
           passed = record {
             cut = each (onto ts m) (walksOver s a);
@@ -276,7 +266,7 @@ module _ (under : ℕ) (w : List ℕ) (c : Cursor) (h : c .place < getD w (first
           turned = O .turned;
           sum = O .sum;
         };
-        kept = kept-none w;
+        kept = kept-none turnsAt turnsEnd w;
         falls = omega arith;
         passed = record {
           cut = [];
@@ -340,7 +330,7 @@ module _ (under : ℕ) (w : List ℕ) (c : Cursor) (h : c .place < getD w (first
               (rw (i, j) (O .placed), rw (i, j) (inside s weight seed w c O h), O .turned);
           sum = rw (pl, same) (omega (arith, O .sum));
         };
-        kept = kept-turn w (c .depth) x low;
+        kept = kept-set turnsAt turnsEnd w w (turnsAt + c .depth) x (kept-none turnsAt turnsEnd w) (omega arith) (omega arith);
         falls = omega arith;
         passed = record {
           cut = [];
@@ -415,7 +405,7 @@ module _ (under : ℕ) (w : List ℕ) (c : Cursor) (h : getD w (firstsAt + c .pi
           turned = t .2;
           sum = omega arith;
         };
-        kept = kept-none w;
+        kept = kept-none turnsAt turnsEnd w;
         falls = omega arith;
         passed = record {
           cut = [];
@@ -470,7 +460,7 @@ step-ended under w c h k R = record { went = went; less = λ b. rw b (omega arit
     went s weight seed O = unfold coming in
         record {
           on = record { planned = O .planned; lower = O .lower; long = O .long; placed = O .placed; turned = O .turned; sum = O .sum };
-          kept = kept-none w;
+          kept = kept-none turnsAt turnsEnd w;
           falls = omega arith;
           passed = record {
             cut = [];
