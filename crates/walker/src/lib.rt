@@ -110,11 +110,12 @@ fn over(work: &mut [u64], c: Cursor, under: u64) -> Cursor
     let from = area::from_in(word);
     let sum = c.sum + area::weight_in(word);
     let least = sum + work[area::LEASTS + from];
+    let next = place + 1;
     if under <= least {
         return Cursor {
             depth: depth,
             pin: pin,
-            place: place + 1,
+            place: next,
             sum: c.sum,
             value: area::NONE,
             more: true,
@@ -125,7 +126,7 @@ fn over(work: &mut [u64], c: Cursor, under: u64) -> Cursor
         return Cursor {
             depth: depth,
             pin: pin,
-            place: place + 1,
+            place: next,
             sum: c.sum,
             value: least,
             more: false,

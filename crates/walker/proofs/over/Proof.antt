@@ -53,9 +53,9 @@ add-least-2 c =
     let l = rw (← f .from-in .ensures) at (safe-least (b .args .work .now) (b .args .c) (b .pre .0) (b .pre .2)) in
     omega (arith, safe (b .args .work .now) (b .args .c) (b .pre .0), k .slice-known2 .given (arcsAt + b .args .c .place))
 
-add-t17 : tie.Need-add-t17
-add-t17 c =
-    let b = c .before .before .before .before .before .before .before in
+add-next : tie.Need-add-next
+add-next c =
+    let b = c .before .before .before .before .before .before in
     omega (arith, safe (b .args .work .now) (b .args .c) (b .pre .0))
 
 lesser-requires : tie.Need-lesser-requires
@@ -76,11 +76,6 @@ mul-if2 c = search needs
 
 slice-read-if2 : tie.Need-slice-read-if2
 slice-read-if2 c = search needs
-
-add-t20 : tie.Need-add-t20
-add-t20 c =
-    let b = c .before .before .before .before .before .before .before .before .before in
-    omega (arith, safe (b .args .work .now) (b .args .c) (b .pre .0))
 
 returns-2 : tie.Need-returns-2
 returns-2 c =
@@ -110,19 +105,19 @@ slice-write-work c =
     let b = c .before .before .before .before .before .before .before .before .before .before in
     omega (arith, safe (b .args .work .now) (b .args .c) (b .pre .0))
 
-add-t11 : tie.Need-add-t11
-add-t11 c =
+add-t12 : tie.Need-add-t12
+add-t12 c =
     let b = c .before .before .before .before .before .before .before .before .before .before in
     omega (arith, safe (b .args .work .now) (b .args .c) (b .pre .0))
 
-add-t12 : tie.Need-add-t12
-add-t12 c = search needs
+add-t13 : tie.Need-add-t13
+add-t13 c = search needs
 
-mul-t22 : tie.Need-mul-t22
-mul-t22 c = search needs
+mul-t21 : tie.Need-mul-t21
+mul-t21 c = search needs
 
-slice-read-t14 : tie.Need-slice-read-t14
-slice-read-t14 c =
+slice-read-t15 : tie.Need-slice-read-t15
+slice-read-t15 c =
     let f = c .before .before .before .before .before .before .before .before in
     let b = f .before .before .before in
     rw (length-set (b .args .work .now) (turnsAt + b .args .c .depth) (c .before .turn-of .result))
@@ -154,21 +149,20 @@ over-spec =
     mul-least
     slice-read-least
     add-least-2
-    add-t17
+    add-next
     lesser-requires
     returns
     add-if2
     mul-if2
     slice-read-if2
-    add-t20
     returns-2
     turn-of-requires
     add-work
     mul-work
     slice-write-work
-    add-t11
     add-t12
-    mul-t22
-    slice-read-t14
+    add-t13
+    mul-t21
+    slice-read-t15
     same-length
     returns-3)
