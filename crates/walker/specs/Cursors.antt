@@ -1,4 +1,4 @@
--- A cursor: where in the walks of a test the engine is, and what a step of it does to what is still to come.
+-- A cursor: a place in the walks of a test, and what a step from it does to what is still to come.
 -- Assumes nothing.
 use mathlib.Core.Path.{_≡_}
 use mathlib.Core.Bool.{true, false}
@@ -14,7 +14,7 @@ use Rattle.timing.specs.Value.{valueOf}
 use Rattle.timing.specs.Laws.Sound.{Sound}
 use Rattle.area.specs.Area.{none, plan, wordAt, firstAt, arcIn, leastsAt, firstsAt, turnsAt, turnsEnd}
 use Rattle.area.specs.Area as area
-use Rattle.engine.specs.Laid.{Arcs, Seeds}
+use Rattle.arcs.specs.Laid.{Arcs, Seeds}
 use Rattle.walker.specs.Rest.{pinIn, placeIn, turns, onto, came, rest, size}
 use Rattle.walker.specs.declared.Cursor.{Cursor}
 

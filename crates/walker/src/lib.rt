@@ -10,9 +10,8 @@ ghost use Rattle.walker.specs.Slots.{Keeps};
 ghost use Rattle.walker.specs.Slots as slots;
 ghost use Rattle.walker.specs.Cursors.{endAt, beginAt, Ready, Step, Next};
 
-// Where in the walks the engine is: how many turns it took, the pin that it came to, the place of the next arc into it, and what the turns weigh. If a walk was
-// found, its value; NONE if not. Whether there is more to go through before the next. And the least bound
-// of an arc that was passed over.
+// A place in the walks of a test: how many turns were taken, the pin that they came to, the place of the next arc into it, and what the turns weigh. If a walk
+// was found, its value; NONE if not. Whether there is more to go through before the next. And the least bound of an arc that was passed over.
 pub struct Cursor {
     pub depth: usize,
     pub pin: usize,
@@ -32,7 +31,7 @@ fn lesser(a: u64, b: u64) -> u64
 
 // ---- the least values
 
-// The least value that the arcs into pin v bring.
+// The least value that the arcs into pin v bring. The numbers of the pins that they leave stand already, and none is above NONE, so no sum wraps.
 fn least_into(work: &[u64], v: usize) -> u64
     requires { ⌜ Into (now work) v ⌝ }
     ensures { λ r. ⌜ Least (now (work .entry)) v r ⌝ }
