@@ -164,11 +164,12 @@ fn back(work: &[u64], c: Cursor) -> Cursor
     let last = work[area::TURNS + (depth - 1)];
     let place = turn_place(last);
     let weight = area::weight_in(work[area::ARCS + place]);
+    let sum = c.sum - weight;
     Cursor {
         depth: depth - 1,
         pin: turn_pin(last),
         place: place + 1,
-        sum: c.sum - weight,
+        sum: sum,
         value: area::NONE,
         more: true,
         out: c.out,
