@@ -6,6 +6,7 @@ use Prim.Native.Nat.{ℕ, _+_, _-_, _≤_, _<_, min}
 use native.Mathlib.Omega.{arith}
 use lib.ListN.{length, getD, take, drop, length-take, length-drop}
 use lib.Seq.{getD-take, getD-drop, ext-getD, take-add, drop-append-seam, length-take-le}
+use Rattle.timing.specs.Limits.{mostPins, mostArcs}
 use Rattle.area.specs.Area.{plan, planLength, wordAt, firstAt, seedAt, arcsAt, firstsAt, seedsAt, creditsAt}
 
 pub plan-at : (w : List ℕ) (i : ℕ) → i < planLength → getD (plan w) i 0 ≡ getD w (arcsAt + i) 0
@@ -16,10 +17,12 @@ pub word-at : (w : List ℕ) (i : ℕ) → i < 1024 → wordAt (plan w) i ≡ ge
 word-at w i h = plan-at w i (omega arith)
 
 pub first-at : (w : List ℕ) (v : ℕ) → v ≤ 256 → firstAt (plan w) v ≡ getD w (firstsAt + v) 0
-first-at w v h = let z : arcsAt + (1024 + v) ≡ firstsAt + v = omega arith in rw (← z) (plan-at w (1024 + v) (omega arith))
+first-at w v h = let z : arcsAt + (mostArcs + v) ≡ firstsAt + v = omega arith in rw (← z) (plan-at w (mostArcs + v) (omega arith))
 
 pub seed-at : (w : List ℕ) (v : ℕ) → v < 256 → seedAt (plan w) v ≡ getD w (seedsAt + v) 0
-seed-at w v h = let z : arcsAt + (1281 + v) ≡ seedsAt + v = omega arith in rw (← z) (plan-at w (1281 + v) (omega arith))
+seed-at w v h =
+    let z : arcsAt + (mostArcs + (mostPins + 1) + v) ≡ seedsAt + v = omega arith in
+    rw (← z) (plan-at w (mostArcs + (mostPins + 1) + v) (omega arith))
 
 -- ---- two work areas with one plan
 
