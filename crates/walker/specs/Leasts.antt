@@ -3,7 +3,7 @@
 use mathlib.Core.Path.{_≡_}
 use mathlib.Core.List.{List}
 use Prim.Native.Nat.{ℕ, _+_, _≤_, _<_}
-use lib.ListN.{length, getD}
+use lib.ListN.{length}
 use Rattle.timing.specs.Structure.{Structure, pins, arcs, leaves, enters}
 use Rattle.area.specs.Area.{Kept, none, plan, wordAt, firstAt, seedAt, fromIn, weightIn, leastsAt, clocksAt}
 use Rattle.walker.specs.Cursors.{Planned, Lower, leastAt}

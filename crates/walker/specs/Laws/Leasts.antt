@@ -8,10 +8,10 @@ use native.Mathlib.Decide.{ℕ-discrete}
 use lib.ListN.{length, getD, set, length-set}
 use lib.Seq.{getD-set-same, getD-set-other, take-set-le}
 use Rattle.lists.specs.Laws.Pieces.{place-of}
-use Rattle.timing.specs.Structure.{Structure, pins, arcs, leaves, enters}
+use Rattle.timing.specs.Structure.{Structure, pins, leaves, enters}
 use Rattle.timing.specs.Clock.{into}
 use Rattle.timing.specs.Laws.Routes.{into-into}
-use Rattle.area.specs.Area.{none, plan, wordAt, firstAt, seedAt, fromIn, weightIn, arcIn, leastsAt, clocksAt, arcsAt, firstsAt, seedsAt, planLength}
+use Rattle.area.specs.Area.{none, plan, wordAt, firstAt, seedAt, fromIn, weightIn, arcIn, leastsAt, clocksAt, arcsAt, firstsAt, seedsAt}
 use Rattle.area.specs.Laws.Kept.{kept-none, kept-set}
 use Rattle.area.specs.Laws.Plan.{word-at, first-at, seed-at, plan-same, plan-kept}
 use Rattle.walker.specs.Cursors.{Planned, Lower, leastAt}

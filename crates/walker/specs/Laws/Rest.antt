@@ -16,8 +16,8 @@ use Rattle.timing.specs.Clock.{into}
 use Rattle.timing.specs.Paths.{isStart, walks}
 use Rattle.timing.specs.Laws.Routes.{in-into}
 use Rattle.timing.specs.Laws.Steps.{walksOver, walks-step}
-use Rattle.area.specs.Area.{plan, wordAt, firstAt, weightIn, fromIn, arcIn}
-use Rattle.walker.specs.Rest.{pinIn, placeIn, turn, onto, arcsFrom, left, through, behind, rest}
+use Rattle.area.specs.Area.{wordAt, firstAt, weightIn, fromIn, arcIn}
+use Rattle.walker.specs.Rest.{pinIn, placeIn, onto, arcsFrom, left, through, behind, rest}
 use Rattle.walker.specs.Cursors.{Planned}
 
 -- ---- the arcs that are left

@@ -3,7 +3,7 @@
 use mathlib.Core.Path.{_≡_, refl, sym, ap, ap₂, _∙_}
 use mathlib.Core.Bool.{Bool, true, false, true≢false, false≢true}
 use mathlib.Core.List.{List, [], _∷_}
-use Prim.Native.Nat.{ℕ, zero, suc, _+_, _-_, _*_, _/_, _%_, _≤_, _<_}
+use Prim.Native.Nat.{ℕ, zero, suc, _+_, _-_, _*_, _≤_, _<_}
 use native.Mathlib.Numerals.{add-one}
 use native.Mathlib.Omega.{arith}
 use borrow.Author.Tests.{lt-ltb, le-ltb}
@@ -13,7 +13,7 @@ use Rattle.lists.specs.Choice.{pick}
 use Rattle.lists.specs.Parts.{each}
 use Rattle.lists.specs.Laws.Cases.{by-test}
 use Rattle.lists.specs.Laws.Member.{all-map}
-use Rattle.timing.specs.Structure.{Structure, pins, arcs, leaves, enters}
+use Rattle.timing.specs.Structure.{Structure, pins, leaves, enters}
 use Rattle.timing.specs.Paths.{isStart}
 use Rattle.timing.specs.Value.{valueOf}
 use Rattle.timing.specs.Laws.Steps.{walksOver}
