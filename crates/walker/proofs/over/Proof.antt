@@ -66,7 +66,8 @@ returns c =
     let g = c .before .before .before .before in
     let f = g .before in
     let b = f .before .before .before in
-    step-past _ _ _ (b .pre .2) _ (rw (f .from-in .ensures, g .weight-in .ensures) at (c .before .if1 .taken)) (c .lesser .ensures .0) (rw (f .from-in .ensures, g .weight-in .ensures) at (c .lesser .ensures .1)) (b .pre .0)
+    let l = rw (f .from-in .ensures, g .weight-in .ensures) at (c .before .if1 .taken) in
+    step-past _ _ _ (b .pre .2) _ (omega arith) (c .lesser .ensures .0) (rw (f .from-in .ensures, g .weight-in .ensures) at (c .lesser .ensures .1)) (b .pre .0)
 
 add-if2 : tie.Need-add-if2
 add-if2 c = search needs
@@ -83,7 +84,7 @@ returns-2 c =
     let f = g .before in
     let b = f .before .before .before in
     let l = rw (f .from-in .ensures, g .weight-in .ensures) at (c .before .before .if1 .left) in
-    rw (f .from-in .ensures, g .weight-in .ensures) (step-caught _ _ _ (b .pre .2) (b .pre .1) l (rw (f .from-in .ensures) at (c .if2 .taken)) (b .pre .0))
+    rw (f .from-in .ensures, g .weight-in .ensures) (step-caught _ _ _ (b .pre .2) (b .pre .1) (omega arith) (rw (f .from-in .ensures) at (c .if2 .taken)) (b .pre .0))
 
 turn-of-requires : tie.Need-turn-of-requires
 turn-of-requires c κs =
