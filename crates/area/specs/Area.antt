@@ -28,11 +28,11 @@ none = 1152921504606846976
 
 -- ---- where the parts begin
 
-abbrev pub slot : ℕ
-slot = mostPins
+abbrev pub slotAt : ℕ → ℕ
+slotAt n = n * mostPins
 
 abbrev pub arcsAt : ℕ
-arcsAt = mostK * slot
+arcsAt = slotAt mostK
 
 abbrev pub firstsAt : ℕ
 firstsAt = arcsAt + mostArcs
@@ -102,16 +102,16 @@ firstAt m v = getD m (mostArcs + v) 0
 abbrev pub seedAt : List ℕ → ℕ → ℕ
 seedAt m v = getD m (mostArcs + (mostPins + 1) + v) 0
 
--- ---- an arc in one word: its weight, the pin that it leaves, its number
+-- ---- an arc in one word: the pin that it leaves in the lowest 8 bits, which is what is read most, then its number, then its weight
 
 abbrev pub packed : ℕ → ℕ → ℕ → ℕ
-packed weight from arc = weight * 262144 + from * 1024 + arc
+packed weight from arc = weight * 262144 + arc * 256 + from
 
 abbrev pub weightIn : ℕ → ℕ
 weightIn x = x / 262144
 
 abbrev pub fromIn : ℕ → ℕ
-fromIn x = x / 1024 % 256
+fromIn x = x % 256
 
 abbrev pub arcIn : ℕ → ℕ
-arcIn x = x % 1024
+arcIn x = x / 256 % 1024

@@ -1,2 +1,3 @@
 -- The work area.
 pub mod Area
+pub mod Laws

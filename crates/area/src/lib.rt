@@ -2,7 +2,7 @@
 use timing::Design;
 ghost use mathlib.Core.Path.{_≡_};
 ghost use Prim.Native.Nat.{_<_};
-ghost use Rattle.area.specs.Area.{weightIn, fromIn, arcIn, packed};
+ghost use Rattle.area.specs.Area.{packed, weightIn, fromIn, arcIn};
 
 // The walks of the ranked list, a slot for each record: how many arcs, and then the arcs, read backwards from the data pin.
 pub const SLOTS: usize = 0;
@@ -52,6 +52,14 @@ pub const END: usize = TURNS + Design::PINS;
 // No start, no driver, no walk: above every value.
 pub const NONE: u64 = 1152921504606846976;
 
+// An arc in one word: what it adds to a value, the pin that it leaves, and its number.
+pub fn word_of(weight: u64, from: u64, arc: u64) -> u64
+    requires { ⌜ (weight < 4294967296) × (from < 256) × (arc < 1024) ⌝ }
+    ensures { λ r. ⌜ r ≡ packed weight from arc ⌝ }
+{
+    weight * 262144 + arc * 256 + from
+}
+
 // What the arc in a word adds to a value.
 pub fn weight_in(word: u64) -> u64
     ensures { λ r. ⌜ r ≡ weightIn word ⌝ }
@@ -63,12 +71,12 @@ pub fn weight_in(word: u64) -> u64
 pub fn from_in(word: u64) -> usize
     ensures { λ r. ⌜ r ≡ fromIn word ⌝ }
 {
-    (word / 1024 % 256) as usize
+    (word % 256) as usize
 }
 
 // Its number.
 pub fn arc_in(word: u64) -> u64
     ensures { λ r. ⌜ r ≡ arcIn word ⌝ }
 {
-    word % 1024
+    word / 256 % 1024
 }

@@ -10,8 +10,8 @@ use Rattle.timing.specs.Rows.{modeOf}
 use Rattle.timing.specs.Value.{seedOf}
 use Rattle.clocks.specs.Clocked.{Clocked, Based}
 use Rattle.area.specs.Area.{plan, arcsAt}
-use Rattle.engine.specs.Laid.{Arcs, Laid}
-use Rattle.engine.specs.Sorting.{weighing}
+use Rattle.arcs.specs.Laid.{Arcs, Laid}
+use Rattle.arcs.specs.Sorting.{weighing}
 use Rattle.walker.specs.Cursors.{Lower, leastAt}
 
 -- a pin's level is its number

@@ -23,7 +23,7 @@ pub fn prepare(table: &[u32], mode: u32, work: &mut [u64])
     requires { ⌜ clocked.Ready (now table) (now work) ⌝ }
     ensures { λ _. ⌜ Prepared (now (table .entry)) mode (now (work .exit)) × (length (now (work .exit)) ≡ length (now (work .entry))) ⌝ }
 {
-    engine::sort(table, mode, work);
+    arcs::sort(table, mode, work);
     clocks::clocks(table, work);
     clocks::bases(table, mode, work);
 }
@@ -84,7 +84,7 @@ pub fn total(table: &[u32], mode: u32, work: &mut [u64]) -> u64
         return 0;
     }
     seed(table, mode, work, 0);
-    engine::counts(work, tables::pin_count(table));
+    arcs::counts(work, tables::pin_count(table));
     add_counts(table, work)
 }
 

@@ -16,6 +16,7 @@ pub mod Integer
 pub mod Ranking
 pub mod Exchange
 pub mod Top
+pub mod Under
 pub mod Falling
 pub mod Pieces
 pub mod Ranks

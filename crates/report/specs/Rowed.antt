@@ -35,9 +35,9 @@ use Rattle.clocks.specs.Clocked.{Credited}
 use Rattle.clocks.specs.Known.{test-clock, test-data}
 use Rattle.clocks.specs.Small.{credit-most}
 use Rattle.area.specs.Area.{plan}
-use Rattle.engine.specs.Asked.{AtRank, Room, Walked}
-use Rattle.engine.specs.Sorting.{weighing}
-use Rattle.engine.specs.Laws.Traced.{entries-count}
+use Rattle.arcs.specs.Asked.{AtRank, Room, Walked}
+use Rattle.arcs.specs.Sorting.{weighing}
+use Rattle.arcs.specs.Laws.Traced.{entries-count}
 use Rattle.winners.specs.Laws.Prepared.{standing-kept}
 use Rattle.winners.specs.Laws.Entered.{data-at}
 use Rattle.winners.specs.Standing.{level, testSeed, Standing}

@@ -159,7 +159,7 @@ fn row_of(table: &[u32], mode: u32, work: &mut [u64], c: Candidate, row: &mut [i
 {
     let j = count(c.test);
     let end = tables::of_test(table, 1, j);
-    let n = engine::trace(work, end, count(c.serial), WALK);
+    let n = arcs::trace(work, end, count(c.serial), WALK);
     let start = start_of(table, work, n);
     let credit = clocks::credit_from(table, work, tables::of_test(table, 0, j), start);
     let head = Head {

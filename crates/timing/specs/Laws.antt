@@ -19,3 +19,4 @@ pub mod Written
 pub mod Steps
 pub mod Counted
 pub mod Valued
+pub mod Least

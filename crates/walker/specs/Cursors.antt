@@ -1,4 +1,4 @@
--- A cursor: where in the walks of a test the engine is, and what a step of it does to what is still to come.
+-- A cursor: a place in the walks of a test, and what a step from it does to what is still to come.
 -- Assumes nothing.
 use mathlib.Core.Path.{_≡_}
 use mathlib.Core.Bool.{true, false}
@@ -12,9 +12,10 @@ use Rattle.timing.specs.Structure.{Structure, pins, arcs, leaves, enters}
 use Rattle.timing.specs.Paths.{isStart}
 use Rattle.timing.specs.Value.{valueOf}
 use Rattle.timing.specs.Laws.Sound.{Sound}
-use Rattle.area.specs.Area.{none, plan, wordAt, firstAt, arcIn, countsAt}
-use Rattle.engine.specs.Laid.{Arcs, Seeds}
-use Rattle.walker.specs.Rest.{turnsAt, turnsEnd, pinIn, placeIn, turns, onto, came, rest, size}
+use Rattle.area.specs.Area.{none, plan, wordAt, firstAt, arcIn, leastsAt, firstsAt, turnsAt, turnsEnd}
+use Rattle.area.specs.Area as area
+use Rattle.arcs.specs.Laid.{Arcs, Seeds}
+use Rattle.walker.specs.Rest.{pinIn, placeIn, turns, onto, came, rest, size}
 use Rattle.walker.specs.declared.Cursor.{Cursor}
 
 -- the arcs and the seeds stand in the plan
@@ -31,15 +32,15 @@ pub record Lower (s : Structure) (weight seed f : ℕ → ℕ) : Type 0 where
   pub over : (a : ℕ) → a < arcs s → isStart s (enters s a) ≡ false → f (enters s a) ≤ f (leaves s a) + weight a
 
 abbrev pub leastAt : List ℕ → ℕ → ℕ
-leastAt w v = getD w (countsAt + v) 0
+leastAt w v = getD w (leastsAt + v) 0
 
 -- where the arcs into the cursor's pin end
 abbrev pub endAt : List ℕ → Cursor → ℕ
-endAt w c = getD w (5120 + c .pin + 1) 0
+endAt w c = getD w (firstsAt + c .pin + 1) 0
 
 -- before the first walk from a pin
 abbrev pub beginAt : List ℕ → ℕ → Cursor
-beginAt w v = record { depth = 0; pin = v; place = getD w (5120 + v) 0; sum = 0; value = none; more = true; out = none }
+beginAt w v = record { depth = 0; pin = v; place = getD w (firstsAt + v) 0; sum = 0; value = none; more = true; out = none }
 
 -- place p of pin v behind the turns: no deeper than there are pins, so what the turns weigh fits a word
 pub record Placed (s : Structure) (level : ℕ → ℕ) (m ts : List ℕ) (v p : ℕ) : Type 0 where
@@ -101,10 +102,8 @@ pub record Passed (s : Structure) (weight seed : ℕ → ℕ) (under : ℕ) (bef
   pub taken : c .value < none → firstAt (plan w) (c .pin) < c .place
 
 -- nothing is new in the work area but the turns
-pub record Kept (w₀ w : List ℕ) : Type 0 where
-  pub long : length w ≡ length w₀
-  pub front : (i : ℕ) → i < turnsAt → getD w i 0 ≡ getD w₀ i 0
-  pub back : (i : ℕ) → turnsEnd ≤ i → getD w i 0 ≡ getD w₀ i 0
+abbrev pub Kept : List ℕ → List ℕ → Type 0
+Kept = area.Kept turnsAt turnsEnd
 
 pub record Went (s : Structure) (weight seed : ℕ → ℕ) (under : ℕ) (w₀ : List ℕ) (c₀ : Cursor) (w : List ℕ) (c : Cursor) : Type 0 where
   pub on : On s weight seed w c

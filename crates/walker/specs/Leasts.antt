@@ -3,16 +3,17 @@
 use mathlib.Core.Path.{_≡_}
 use mathlib.Core.List.{List}
 use Prim.Native.Nat.{ℕ, _+_, _≤_, _<_}
-use lib.ListN.{length, getD}
+use lib.ListN.{length}
 use Rattle.timing.specs.Structure.{Structure, pins, arcs, leaves, enters}
-use Rattle.area.specs.Area.{none, plan, wordAt, firstAt, seedAt, fromIn, weightIn, countsAt, clocksAt}
+use Rattle.area.specs.Area.{Kept, none, plan, wordAt, firstAt, seedAt, fromIn, weightIn, leastsAt, clocksAt}
 use Rattle.walker.specs.Cursors.{Planned, Lower, leastAt}
 
--- the arcs into v stand where the work area says
+-- the arcs into v stand where the work area says, and the numbers of the pins that they leave stand too
 pub record Into (w : List ℕ) (v : ℕ) : Type 0 where
   pub long : clocksAt ≤ length w
   pub pin : v < 256
   pub fits : firstAt (plan w) (v + 1) ≤ 1024
+  pub low : (i : ℕ) → firstAt (plan w) v ≤ i → i < firstAt (plan w) (v + 1) → leastAt w (fromIn (wordAt (plan w) i)) ≤ none
 
 -- r is at most what each arc into pin v brings
 pub record Least (w : List ℕ) (v r : ℕ) : Type 0 where
@@ -39,10 +40,8 @@ pub record Laid (w : List ℕ) (p : ℕ) : Type 0 where
   pub long : clocksAt ≤ length w
 
 -- nothing is new in the work area but the least values
-pub record Beside (w₀ w : List ℕ) : Type 0 where
-  pub long : length w ≡ length w₀
-  pub front : (i : ℕ) → i < countsAt → getD w i 0 ≡ getD w₀ i 0
-  pub back : (i : ℕ) → clocksAt ≤ i → getD w i 0 ≡ getD w₀ i 0
+abbrev pub Beside : List ℕ → List ℕ → Type 0
+Beside = Kept leastsAt clocksAt
 
 -- the least values of the pins below v stand
 pub record Leasts (w₀ w : List ℕ) (v : ℕ) : Type 0 where

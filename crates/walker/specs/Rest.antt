@@ -8,16 +8,9 @@ use lib.ListN.{getD}
 use Rattle.lists.specs.Parts.{each, gather}
 use Rattle.timing.specs.Structure.{Structure}
 use Rattle.timing.specs.Laws.Steps.{walksOver}
-use Rattle.area.specs.Area.{wordAt, firstAt, weightIn, fromIn, arcIn}
+use Rattle.area.specs.Area.{wordAt, firstAt, weightIn, fromIn, arcIn, turnsAt}
 
 -- ---- turns
-
--- where they stand in the work area
-abbrev pub turnsAt : ℕ
-turnsAt = 7425
-
-abbrev pub turnsEnd : ℕ
-turnsEnd = 7681
 
 -- a turn in one word: the pin, and the place of the arc
 abbrev pub turn : ℕ → ℕ → ℕ
@@ -49,13 +42,13 @@ came (x ∷ ts) m = weightIn (wordAt m (placeIn x)) + came ts m
 -- ---- what is left
 
 -- the arcs at n places, from p on
-unfoldable pub arcsAt : ℕ → List ℕ → ℕ → List ℕ
-arcsAt zero m p = []
-arcsAt (suc n) m p = arcIn (wordAt m p) ∷ arcsAt n m (suc p)
+unfoldable pub arcsFrom : ℕ → List ℕ → ℕ → List ℕ
+arcsFrom zero m p = []
+arcsFrom (suc n) m p = arcIn (wordAt m p) ∷ arcsFrom n m (suc p)
 
 -- the arcs into pin v from place p on
 unfoldable pub left : List ℕ → ℕ → ℕ → List ℕ
-left m v p = arcsAt (firstAt m (v + 1) - p) m p
+left m v p = arcsFrom (firstAt m (v + 1) - p) m p
 
 -- the walks by the turns and then over one of these arcs
 unfoldable pub through : Structure → List ℕ → List ℕ → List ℕ → List (List ℕ)

@@ -3,19 +3,15 @@ ghost use mathlib.Core.Path.{_≡_};
 ghost use mathlib.Core.Bool.{true};
 ghost use Prim.Native.Nat.{ℕ, _+_, _*_, _≤_, _<_};
 ghost use lib.ListN.{length};
-ghost use Rattle.area.specs.Area.{none};
-ghost use Rattle.walker.specs.Rest.{turnsEnd};
+ghost use Rattle.area.specs.Area.{none, turnsEnd};
+ghost use Rattle.walker.specs.Rest.{turn, pinIn, placeIn};
 ghost use Rattle.walker.specs.Leasts.{Into, Least, LeastAt, Laid, AllLeasts};
 ghost use Rattle.walker.specs.Slots.{Keeps};
 ghost use Rattle.walker.specs.Slots as slots;
 ghost use Rattle.walker.specs.Cursors.{endAt, beginAt, Ready, Step, Next};
 
-// Where the turns of the walk at hand stand in the work area.
-const TURNS: usize = 7425;
-
-// Where in the walks the engine is: how many turns it took, the pin that it came to, the place of the next arc into it, and what the turns weigh. If a walk was
-// found, its value; NONE if not. Whether there is more to go through before the next. And the least bound
-// of an arc that was passed over.
+// A place in the walks of a test: how many turns were taken, the pin that they came to, the place of the next arc into it, and what the turns weigh. If a walk
+// was found, its value; NONE if not. Whether there is more to go through before the next. And the least bound of an arc that was passed over.
 pub struct Cursor {
     pub depth: usize,
     pub pin: usize,
@@ -35,7 +31,7 @@ fn lesser(a: u64, b: u64) -> u64
 
 // ---- the least values
 
-// The least value that the arcs into pin v bring.
+// The least value that the arcs into pin v bring. The numbers of the pins that they leave stand already, and none is above NONE, so no sum wraps.
 fn least_into(work: &[u64], v: usize) -> u64
     requires { ⌜ Into (now work) v ⌝ }
     ensures { λ r. ⌜ Least (now (work .entry)) v r ⌝ }
@@ -45,11 +41,8 @@ fn least_into(work: &[u64], v: usize) -> u64
     let mut least = area::NONE;
     while i < end {
         let word = work[area::ARCS + i];
-        let from = lesser(
-            work[area::LEASTS + (word / 1024 % 256) as usize],
-            area::NONE,
-        );
-        least = lesser(least, from + word / 262144);
+        let from = area::from_in(word);
+        least = lesser(least, work[area::LEASTS + from] + area::weight_in(word));
         i += 1;
     }
     least
@@ -83,11 +76,25 @@ pub fn least_values(work: &mut [u64], pins: usize)
 // ---- the cursor
 
 // A turn in one word: the pin at which an arc was taken, and the arc's place.
-fn turn(pin: usize, place: usize) -> u64
+fn turn_of(pin: usize, place: usize) -> u64
     requires { ⌜ (pin < 256) × (place < 1024) ⌝ }
-    ensures { λ r. ⌜ r ≡ pin * 1024 + place ⌝ }
+    ensures { λ r. ⌜ r ≡ turn pin place ⌝ }
 {
     (pin * 1024 + place) as u64
+}
+
+// The pin of a turn.
+fn turn_pin(turn: u64) -> usize
+    ensures { λ r. ⌜ r ≡ pinIn turn ⌝ }
+{
+    (turn / 1024) as usize
+}
+
+// The place of its arc.
+fn turn_place(turn: u64) -> usize
+    ensures { λ r. ⌜ r ≡ placeIn turn ⌝ }
+{
+    (turn % 1024) as usize
 }
 
 // Over the arc at the cursor: past it if its bound is not below the given one, else to the end of a walk, or deeper.
@@ -99,29 +106,42 @@ fn over(work: &mut [u64], c: Cursor, under: u64) -> Cursor
     let pin = c.pin;
     let place = c.place;
     let word = work[area::ARCS + place];
-    let from = (word / 1024 % 256) as usize;
-    let sum = c.sum + word / 262144;
+    let from = area::from_in(word);
+    let sum = c.sum + area::weight_in(word);
     let least = sum + work[area::LEASTS + from];
-    let mut r = c;
-    r.value = area::NONE;
-    r.more = true;
+    let next = place + 1;
     if under <= least {
-        r.place = place + 1;
-        r.out = lesser(c.out, least);
-        return r;
+        return Cursor {
+            depth: depth,
+            pin: pin,
+            place: next,
+            sum: c.sum,
+            value: area::NONE,
+            more: true,
+            out: lesser(c.out, least),
+        };
     }
     if work[area::SEEDS + from] < area::NONE {
-        r.place = place + 1;
-        r.value = least;
-        r.more = false;
-        return r;
+        return Cursor {
+            depth: depth,
+            pin: pin,
+            place: next,
+            sum: c.sum,
+            value: least,
+            more: false,
+            out: c.out,
+        };
     }
-    work[TURNS + depth] = turn(pin, place);
-    r.depth = depth + 1;
-    r.pin = from;
-    r.place = work[area::FIRSTS + from] as usize;
-    r.sum = sum;
-    r
+    work[area::TURNS + depth] = turn_of(pin, place);
+    Cursor {
+        depth: depth + 1,
+        pin: from,
+        place: work[area::FIRSTS + from] as usize,
+        sum: sum,
+        value: area::NONE,
+        more: true,
+        out: c.out,
+    }
 }
 
 // No arc is left at the cursor: back to the turn before, or to the end.
@@ -141,14 +161,15 @@ fn back(work: &[u64], c: Cursor) -> Cursor
             out: c.out,
         };
     }
-    let last = work[TURNS + (depth - 1)] as usize;
-    let place = last % 1024;
-    let weight = work[area::ARCS + place] / 262144;
+    let last = work[area::TURNS + (depth - 1)];
+    let place = turn_place(last);
+    let weight = area::weight_in(work[area::ARCS + place]);
+    let sum = c.sum - weight;
     Cursor {
         depth: depth - 1,
-        pin: last / 1024,
+        pin: turn_pin(last),
         place: place + 1,
-        sum: c.sum - weight,
+        sum: sum,
         value: area::NONE,
         more: true,
         out: c.out,
@@ -207,13 +228,13 @@ pub fn keep_walk(work: &mut [u64], c: Cursor, slot: usize)
 {
     let depth = c.depth;
     let place = c.place;
-    let base = slot * 256;
+    let base = slot * area::SLOT;
     let mut n = 0;
     while n < depth {
-        let turn = work[TURNS + n];
-        work[base + 1 + n] = work[area::ARCS + (turn % 1024) as usize] % 1024;
+        let at = turn_place(work[area::TURNS + n]);
+        work[base + 1 + n] = area::arc_in(work[area::ARCS + at]);
         n += 1;
     }
-    work[base + 1 + depth] = work[area::ARCS + (place - 1)] % 1024;
+    work[base + 1 + depth] = area::arc_in(work[area::ARCS + (place - 1)]);
     work[base] = (depth + 1) as u64;
 }

@@ -18,7 +18,7 @@ use Rattle.timing.specs.Paths.{Path, path, walks, testPaths}
 use Rattle.timing.specs.Value.{valueOf}
 use Rattle.timing.specs.declared.Candidate.{Candidate}
 use Rattle.area.specs.Area.{none, plan, firstAt}
-use Rattle.engine.specs.Sorting.{weighing}
+use Rattle.arcs.specs.Sorting.{weighing}
 use Rattle.laying.specs.Standing.{testSeed, Walks}
 use Rattle.laying.specs.Bounds.{recordOf, slackOf}
 use Rattle.walker.specs.declared.Cursor.{Cursor}
@@ -26,7 +26,7 @@ use Rattle.walker.specs.Cursors.{Lower, leastAt, On, found, coming, Went}
 use Rattle.clocks.specs.Clocked.{Tested}
 use Rattle.walker.specs.Slots.{Keeps}
 use Rattle.walker.specs.Slots as kept-in
-use Rattle.walker.specs.Laws.Under.{below}
+use Rattle.lists.specs.Laws.Under.{below}
 use Rattle.winners.specs.Held.{slackIn, Holds, Sized, kept, nobody}
 use Rattle.winners.specs.Stored.{Shelf, Stored, Entered}
 

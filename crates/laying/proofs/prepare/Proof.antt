@@ -3,7 +3,7 @@
 use mathlib.Core.Path.{_∙_}
 use native.Mathlib.Omega.{arith}
 use borrow.Author.Needs.{needs}
-use Rattle.engine.specs.Laws.Kept.{accepted-whole}
+use Rattle.arcs.specs.Laws.Kept.{accepted-whole}
 use Rattle.laying.specs.Laws.Prepared.{clocks-prepared}
 use Rattle.laying.proofs.prepare.Statement.{statement}
 use Rattle.laying.proofs.prepare.Tie as tie

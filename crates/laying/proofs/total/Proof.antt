@@ -4,7 +4,7 @@ use mathlib.Core.Path.{_≡_, sym, _∙_}
 use native.Mathlib.Omega.{arith}
 use borrow.Author.Needs.{needs}
 use Rattle.timing.specs.Table.{pinCount}
-use Rattle.engine.specs.Asked.{Counted}
+use Rattle.arcs.specs.Counting.{Counted}
 use Rattle.laying.specs.Standing.{Prepared}
 use Rattle.laying.specs.Laws.Prepared.{laid-ready}
 use Rattle.laying.specs.Laws.Totals.{total-none, counts-prepared, counts-total}

@@ -25,12 +25,12 @@ use Rattle.timing.specs.Laws.Accepted.{accepted, accepted-level}
 use Rattle.timing.specs.Laws.Columns.{pins-is, tests-is, clock-is, data-is}
 use Rattle.timing.specs.Laws.Counted.{walks-some}
 use Rattle.timing.specs.Laws.Walked.{walks-sound}
-use Rattle.worst.specs.Laws.Least.{value-above}
+use Rattle.timing.specs.Laws.Least.{value-above}
 use Rattle.area.specs.Area.{Kept, plan, seedsAt, clocksAt}
 use Rattle.clocks.specs.Clocked.{ClockPin, Common, Seeded}
 use Rattle.clocks.specs.Known.{test-clock}
-use Rattle.engine.specs.Laid as sorted
-use Rattle.engine.specs.Sorting.{weighing}
+use Rattle.arcs.specs.Laid as sorted
+use Rattle.arcs.specs.Sorting.{weighing}
 use Rattle.walker.specs.Cursors.{Lower, leastAt}
 use Rattle.walker.specs.Leasts.{Laid, AllLeasts}
 use Rattle.walker.specs.Laws.Least.{lower-walk}

@@ -10,8 +10,8 @@ use Rattle.timing.specs.Structure.{structure}
 use Rattle.timing.specs.Laws.Accepted.{accepted}
 use Rattle.timing.specs.Laws.Columns.{pins-is}
 use Rattle.area.specs.Area.{Kept, plan, seedsAt, clocksAt}
-use Rattle.engine.specs.Laid as sorted
-use Rattle.engine.specs.Sorting.{weighing}
+use Rattle.arcs.specs.Laid as sorted
+use Rattle.arcs.specs.Sorting.{weighing}
 use Rattle.walker.specs.Cursors.{Planned}
 use Rattle.walker.specs.Leasts.{Laid, Beside, AllLeasts}
 use Rattle.laying.specs.Standing.{testSeed, Prepared, Sown, Lay}

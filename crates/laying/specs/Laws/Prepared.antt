@@ -22,10 +22,10 @@ use Rattle.clocks.specs.Kept.{clocked-same, clocked-behind, based-same}
 use Rattle.clocks.specs.Known.{test-clock}
 use Rattle.clocks.specs.Small.{seed-small}
 use Rattle.area.specs.Area.{Kept, plan, planLength, arcsAt, seedsAt, countsAt, clocksAt, basesAt, turnsAt}
-use Rattle.engine.specs.Laid.{Ordered, Arcs, Small, Laid, Ready}
-use Rattle.engine.specs.Sorting.{weighing}
-use Rattle.engine.specs.Laws.Made.{plan-at}
-use Rattle.engine.specs.Laws.Kept.{arcs-same, seeds-are}
+use Rattle.arcs.specs.Laid.{Ordered, Arcs, Small, Laid, Ready}
+use Rattle.arcs.specs.Sorting.{weighing}
+use Rattle.area.specs.Laws.Plan.{plan-at}
+use Rattle.arcs.specs.Laws.Kept.{arcs-same, seeds-are}
 use Rattle.laying.specs.Standing.{level, testSeed, Prepared, Sown}
 
 -- the plan stands before the counts

@@ -21,8 +21,8 @@ use Rattle.timing.specs.Laws.Columns.{pins-is, tests-is, data-is}
 use Rattle.timing.specs.Laws.Counted.{total-capped}
 use Rattle.clocks.specs.Known.{test-data}
 use Rattle.area.specs.Area.{countsAt, clocksAt}
-use Rattle.engine.specs.Asked.{Counted}
-use Rattle.engine.specs.Sorting.{weighing}
+use Rattle.arcs.specs.Counting.{Counted}
+use Rattle.arcs.specs.Sorting.{weighing}
 use Rattle.laying.specs.Standing.{testSeed, Prepared, Sown}
 use Rattle.laying.specs.Bounds.{countAt}
 use Rattle.laying.specs.Laws.Prepared.{prepared-same}

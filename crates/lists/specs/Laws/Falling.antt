@@ -19,6 +19,15 @@ use Rattle.lists.specs.Laws.Integer.{Within, Less, less-within, not-less
 use Rattle.lists.specs.Laws.Ranking.{all-enter, enter-cases, enter-less, enter-more}
 use Rattle.lists.specs.Laws.Top.{rankTop, rank-top}
 
+module _ {A : Type 0} (bound : A → ℤ) where
+  -- the bound of x is m or one more
+  abbrev pub Near : ℤ → A → Type 0
+  Near m x = Within 0 m (bound x) × Within 1 (bound x) m
+
+  -- the bound of y, which comes later, is no higher
+  abbrev pub Falls : A → A → Type 0
+  Falls x y = Within 0 (bound y) (bound x)
+
 module _ {A : Type 0} (key : A → ℤ) where
   -- before all that are greater
   enter-front : (x : A) (l c : List A) → All (λ y. Less (key x) (key y)) c → enter (by key) x (l ++ c) ≡ enter (by key) x l ++ c
@@ -40,15 +49,8 @@ module _ {A : Type 0} (key : A → ℤ) where
     abbrev pub kept : A → Bool
     kept x = ltZ (key x) (bound x)
 
-    -- each bound is m or one more
-    abbrev pub Near : ℤ → A → Type 0
-    Near m x = Within 0 m (bound x) × Within 1 (bound x) m
-
-    abbrev pub Falls : A → A → Type 0
-    Falls x y = Within 0 (bound y) (bound x)
-
     -- what is left out gathers behind what is kept
-    behind : (m : ℤ) (l c xs : List A) → Pairs Falls xs → All (Near m) xs → All (λ y. Within 0 (key y) m) l → All (λ y. All (λ x. Within 0 (bound x) (key y)) xs) c
+    behind : (m : ℤ) (l c xs : List A) → Pairs (Falls bound) xs → All (Near bound m) xs → All (λ y. Within 0 (key y) m) l → All (λ y. All (λ x. Within 0 (bound x) (key y)) xs) c
         → (d : List A) × (rank (by key) (l ++ c) xs ≡ rank (by key) l (those kept xs) ++ d)
     unfolding rank those pick
     behind m l c [] p q a b = (c, refl)
@@ -68,7 +70,7 @@ module _ {A : Type 0} (key : A → ℤ) where
         (all-map _ (λ y. All (λ z. Within 0 (bound z) (key y)) xs) (λ y h. h .1) c b)) in
         (r .0, rw (e, enter-behind x l c (all-map _ (λ y. Within 0 (key y) (key x)) (λ y h. omega (arith, q .0 .0)) l a)) (r .1)))
 
-    pub top-falling : (m : ℤ) (k : ℕ) (xs : List A) → Pairs Falls xs → All (Near m) xs → length (rankTop (by key) k [] (those kept xs)) ≡ k
+    pub top-falling : (m : ℤ) (k : ℕ) (xs : List A) → Pairs (Falls bound) xs → All (Near bound m) xs → length (rankTop (by key) k [] (those kept xs)) ≡ k
         → rankTop (by key) k [] (those kept xs) ≡ take k (rank (by key) [] xs)
     top-falling m k xs p q n =
         let r = behind m [] [] xs p q tt tt in

@@ -42,11 +42,21 @@ module _ {A B C : Type 0} where
   each-gathered f g [] = refl
   each-gathered f g (x ∷ l) = each-join f (g x) (gather g l) ∙ ap (λ (m : List C). each f (g x) ++ m) (each-gathered f g l)
 
+  -- gathered of one function after another
+  gather-each : (f : A → B) (g : B → List C) (l : List A) → gather g (each f l) ≡ gather (λ (x : A). g (f x)) l
+  unfolding gather each
+  gather-each f g [] = refl
+  gather-each f g (x ∷ l) = ap (λ (m : List C). g (f x) ++ m) (gather-each f g l)
+
 -- a list, place by place
 pub each-place : {A : Type 0} (d : A) (l : List A) → each (λ (i : ℕ). getD l i d) (below (length l)) ≡ l
 each-place d l =
     ext-getD d (each (λ (i : ℕ). getD l i d) (below (length l))) l (column-length (λ (i : ℕ). getD l i d) (length l))
     (λ i h. column-at (λ (i : ℕ). getD l i d) d (length l) i (rw (column-length (λ (i : ℕ). getD l i d) (length l)) at h))
+
+-- of what is gathered, place by place
+pub gather-place : {A B : Type 0} (f : A → List B) (d : A) (l : List A) → gather (λ (i : ℕ). f (getD l i d)) (below (length l)) ≡ gather f l
+gather-place f d l = sym (gather-each (λ (i : ℕ). getD l i d) f (below (length l))) ∙ ap (gather f) (each-place d l)
 
 -- every two of the first n
 pub pairs-take : {A : Type 0} (R : A → A → Type 0) (n : ℕ) (l : List A) → Pairs R l → Pairs R (take n l)
@@ -83,7 +93,13 @@ in-place d [] i h = absurd (not-suc-le-zero h)
 in-place d (x ∷ l) zero h = inl refl
 in-place d (x ∷ l) (suc i) h = inr (in-place d l i (omega arith))
 
--- and a member of the first so many
+-- and a member stands at some place
+pub place-of : {A : Type 0} (d x : A) (l : List A) → In x l → (i : ℕ) × (i < length l) × (getD l i d ≡ x)
+place-of d x [] h = absurd h
+place-of d x (y ∷ l) (inl e) = (0, omega arith, sym e)
+place-of d x (y ∷ l) (inr h) = let r = place-of d x l h in (suc (r .0), omega (arith, r .1), r .2)
+
+-- what stands at a place is a member of the first so many
 pub in-front : {A : Type 0} (d : A) (l : List A) (i : ℕ) → i < length l → In (getD l i d) (take (suc i) l)
 in-front d [] i h = absurd (not-suc-le-zero h)
 in-front d (x ∷ l) zero h = inl refl

@@ -12,7 +12,7 @@ use Rattle.timing.specs.Paths.{start}
 use Rattle.timing.specs.Laws.Accepted.{accepted}
 use Rattle.clocks.specs.Clocked.{Credited}
 use Rattle.clocks.specs.Known.{test-clock}
-use Rattle.engine.specs.Asked.{Walked}
+use Rattle.arcs.specs.Asked.{Walked}
 use Rattle.report.specs.Row.{rowOf}
 use Rattle.report.specs.Rowed.{walkPlace, pathIn, arcs-some, arcs-few, at-rank, walk-room, traced-count, still-standing, start-is, start-in, puts, out-is}
 use borrow.Author.Needs.{needs}

@@ -10,12 +10,13 @@ use Rattle.lists.specs.Laws.Member.{all-app, all-map}
 use Rattle.timing.specs.Structure.{Structure, pins}
 use Rattle.timing.specs.Paths.{walks}
 use Rattle.timing.specs.Value.{valueOf}
-use Rattle.area.specs.Area.{none, plan, firstAt}
-use Rattle.engine.specs.Laws.Made.{first-at}
-use Rattle.walker.specs.Rest.{turnsEnd, turns, came}
-use Rattle.walker.specs.Cursors.{Planned, Lower, leastAt, beginAt, On, Ready, coming, found, Kept, Gone}
+use Rattle.area.specs.Area.{none, plan, firstAt, firstsAt, turnsEnd, turnsAt}
+use Rattle.area.specs.Laws.Kept.{kept-none, kept-join}
+use Rattle.area.specs.Laws.Plan.{first-at}
+use Rattle.walker.specs.Rest.{turns, came}
+use Rattle.walker.specs.Cursors.{Planned, Lower, leastAt, beginAt, On, Ready, coming, found, Gone}
 use Rattle.walker.specs.Laws.Rest.{rest-all}
-use Rattle.walker.specs.Laws.Steps.{cursor, kept-none, found-none}
+use Rattle.walker.specs.Laws.Steps.{cursor, found-none}
 use Rattle.walker.specs.declared.Cursor.{Cursor}
 
 abbrev pub afresh : Cursor → Cursor
@@ -26,7 +27,7 @@ unfolding coming
 gone-none under w c s weight seed O =
     record {
       on = record { planned = O .planned; lower = O .lower; long = O .long; placed = O .placed; turned = O .turned; sum = O .sum };
-      kept = kept-none w;
+      kept = kept-none turnsAt turnsEnd w;
       falls = omega arith;
       passed = record {
         cut = [];
@@ -42,10 +43,6 @@ gone-none under w c s weight seed O =
 pub ready-gone : (under : ℕ) (w₀ w : List ℕ) (c₀ c : Cursor) → Ready w₀ c₀ → Gone under w₀ c₀ w c → Ready w c
 ready-gone under w₀ w c₀ c R G = record { of = R .of; weight = R .weight; seed = R .seed; on = G (R .of) (R .weight) (R .seed) (R .on) .on }
 
-pub kept-then : (u v w : List ℕ) → Kept u v → Kept v w → Kept u w
-kept-then u v w k l =
-    record { long = l .long ∙ k .long; front = λ i h. l .front i h ∙ k .front i h; back = λ i h. l .back i h ∙ k .back i h }
-
 pub gone-more : (under : ℕ) (u v w : List ℕ) (a b c : Cursor) → b .more ≡ true → Gone under u a v b → Gone under v b w c → Gone under u a w c
 gone-more under u v w a b c e G H s weight seed O =
     let g = G s weight seed O in
@@ -54,7 +51,7 @@ gone-more under u v w a b c e G H s weight seed O =
     let Q = h .passed in
     record {
       on = h .on;
-      kept = kept-then u v w (g .kept) (h .kept);
+      kept = kept-join turnsAt turnsEnd turnsAt turnsEnd u v w (g .kept) (h .kept) (omega arith) (omega arith);
       falls = omega (arith, g .falls, h .falls);
       passed = record {
         cut = P .cut ++ Q .cut;
@@ -73,7 +70,7 @@ gone-more under u v w a b c e G H s weight seed O =
 -- before the first walk
 
 module _ (s : Structure) (weight seed : ℕ → ℕ) (w : List ℕ) (v : ℕ) (P : Planned s weight seed (plan w)) (h : v < pins s) where
-  first-is : getD w (5120 + v) 0 ≡ firstAt (plan w) v
+  first-is : getD w (firstsAt + v) 0 ≡ firstAt (plan w) v
   first-is = sym (first-at w v (omega (arith, P .ok .few-pins)))
 
   pub begin-on : Lower s weight seed (leastAt w) → turnsEnd ≤ length w → On s weight seed w (beginAt w v)

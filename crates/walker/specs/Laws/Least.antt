@@ -14,7 +14,7 @@ use Rattle.timing.specs.Paths.{isStart, walks}
 use Rattle.timing.specs.Value.{valueOf}
 use Rattle.timing.specs.Laws.Steps.{walksOver}
 use Rattle.timing.specs.Laws.Walked.{Walk, walks-sound}
-use Rattle.worst.specs.Laws.Least.{value-start, value-over}
+use Rattle.timing.specs.Laws.Least.{value-start, value-over}
 use Rattle.area.specs.Area.{wordAt, arcIn}
 use Rattle.walker.specs.Rest.{pinIn, placeIn, onto, came}
 use Rattle.walker.specs.Cursors.{Planned, Lower, Turned}

@@ -10,30 +10,30 @@ use Rattle.lists.specs.Choice.{pick}
 use Rattle.lists.specs.Parts.{each, gather}
 use Rattle.lists.specs.Laws.Member.{each-cong}
 use Rattle.lists.specs.Laws.Join.{each-join}
+use Rattle.lists.specs.Laws.Pieces.{each-each, in-place}
 use Rattle.timing.specs.Structure.{Structure, pins, arcs, leaves, enters}
 use Rattle.timing.specs.Clock.{into}
 use Rattle.timing.specs.Paths.{isStart, walks}
 use Rattle.timing.specs.Laws.Routes.{in-into}
 use Rattle.timing.specs.Laws.Steps.{walksOver, walks-step}
-use Rattle.area.specs.Area.{plan, wordAt, firstAt, weightIn, fromIn, arcIn}
-use Rattle.engine.specs.Laws.Keys.{getD-in, each-each}
-use Rattle.walker.specs.Rest.{pinIn, placeIn, turn, onto, arcsAt, left, through, behind, rest}
+use Rattle.area.specs.Area.{wordAt, firstAt, weightIn, fromIn, arcIn}
+use Rattle.walker.specs.Rest.{pinIn, placeIn, onto, arcsFrom, left, through, behind, rest}
 use Rattle.walker.specs.Cursors.{Planned}
 
 -- ---- the arcs that are left
 
 pub left-more : (m : List ℕ) (v p : ℕ) → p < firstAt m (v + 1) → left m v p ≡ arcIn (wordAt m p) ∷ left m v (suc p)
-unfolding left arcsAt
+unfolding left arcsFrom
 left-more m v p h =
     let e : firstAt m (v + 1) - p ≡ suc (firstAt m (v + 1) - suc p) = omega arith in
-    ap (λ (n : ℕ). arcsAt n m p) e
+    ap (λ (n : ℕ). arcsFrom n m p) e
 
 pub left-none : (m : List ℕ) (v p : ℕ) → firstAt m (v + 1) ≤ p → left m v p ≡ []
-unfolding left arcsAt
-left-none m v p h = let e : firstAt m (v + 1) - p ≡ 0 = omega arith in ap (λ (n : ℕ). arcsAt n m p) e
+unfolding left arcsFrom
+left-none m v p h = let e : firstAt m (v + 1) - p ≡ 0 = omega arith in ap (λ (n : ℕ). arcsFrom n m p) e
 
-arcs-are : (l m : List ℕ) (p : ℕ) → ((j : ℕ) → j < length l → arcIn (wordAt m (p + j)) ≡ getD l j 0) → arcsAt (length l) m p ≡ l
-unfolding arcsAt
+arcs-are : (l m : List ℕ) (p : ℕ) → ((j : ℕ) → j < length l → arcIn (wordAt m (p + j)) ≡ getD l j 0) → arcsFrom (length l) m p ≡ l
+unfolding arcsFrom
 arcs-are [] m p h = refl
 arcs-are (a ∷ l) m p h =
     let z : p + 0 ≡ p = omega arith in
@@ -57,7 +57,7 @@ module _ (s : Structure) (weight seed : ℕ → ℕ) (m : List ℕ) (P : Planned
   read-at : (v j : ℕ) → v < pins s → j < length (into s v) → Read v (firstAt m v + j)
   read-at v j q h =
       let a = getD (into s v) j 0 in
-      let i = in-into s v a (getD-in (into s v) j 0 h) in
+      let i = in-into s v a (in-place 0 (into s v) j h) in
       let p = P .ok .few-pins in
       let b = P .few-arcs in
       let w = P .by-arcs .word v j q h in
@@ -90,7 +90,7 @@ module _ (s : Structure) (weight seed : ℕ → ℕ) (m : List ℕ) (P : Planned
       number : (j : ℕ) → j < length (into s v) → arcIn (wordAt m (firstAt m v + j)) ≡ getD (into s v) j 0
       number j h =
           let a = getD (into s v) j 0 in
-          let i = in-into s v a (getD-in (into s v) j 0 h) in
+          let i = in-into s v a (in-place 0 (into s v) j h) in
           let u : leaves s a < pins s = P .ok .from-in a (i .0) in
           rw (P .by-arcs .word v j q h) (omega (arith, i .0, P .few-arcs, P .ok .few-pins))
 

@@ -3,15 +3,15 @@
 use mathlib.Core.Path.{_≡_, refl, sym, ap, ap₂, _∙_}
 use mathlib.Core.Logic.{_⊎_, inr, ⊎-elim}
 use mathlib.Core.List.{List, [], _∷_}
-use Prim.Native.Nat.{ℕ, zero, suc, _+_, _-_, _*_, _%_, _≤_, _<_, min}
+use Prim.Native.Nat.{ℕ, zero, suc, _+_, _-_, _≤_, _<_}
 use native.Mathlib.Omega.{arith}
 use native.Mathlib.Decide.{ℕ-discrete}
-use lib.ListN.{length, getD, set, drop, length-set, length-take, length-drop}
-use lib.Seq.{getD-set-same, getD-set-other, ext-getD}
+use lib.ListN.{length, getD, set, length-set}
+use lib.Seq.{getD-set-same, getD-set-other}
 use Rattle.timing.specs.Structure.{Structure, leaves, enters}
-use Rattle.area.specs.Area.{plan, wordAt, arcIn}
-use Rattle.engine.specs.Laws.Made.{plan-at, word-at}
-use Rattle.walker.specs.Rest.{turnsAt, turnsEnd, placeIn, turns, onto}
+use Rattle.area.specs.Area.{plan, wordAt, arcIn, slotAt, arcsAt, leastsAt, turnsAt, turnsEnd}
+use Rattle.area.specs.Laws.Plan.{word-at, plan-same}
+use Rattle.walker.specs.Rest.{placeIn, turns, onto}
 use Rattle.walker.specs.declared.Cursor.{Cursor}
 use Rattle.walker.specs.Cursors.{leastAt, On, coming, walkAt}
 use Rattle.walker.specs.Cursors as area
@@ -52,19 +52,19 @@ module _ (w : List ℕ) (d p : ℕ) where
   unfolding walkAt
   walk-length = onto-length d w (plan w) (arcIn (wordAt (plan w) (p - 1)) ∷ [])
 
-  pub walk-at : (i : ℕ) → i < d → getD (walkAt w d p) i 0 ≡ getD w (4096 + getD w (7425 + i) 0 % 1024) 0 % 1024
+  pub walk-at : (i : ℕ) → i < d → getD (walkAt w d p) i 0 ≡ arcIn (getD w (arcsAt + placeIn (getD w (turnsAt + i) 0)) 0)
   unfolding walkAt arcOf
   walk-at i h =
       onto-at d w (plan w) (arcIn (wordAt (plan w) (p - 1)) ∷ []) i h
-      ∙ ap (λ (x : ℕ). x % 1024) (word-at w (getD w (7425 + i) 0 % 1024) (omega arith))
+      ∙ ap arcIn (word-at w (placeIn (getD w (turnsAt + i) 0)) (omega arith))
 
-  pub walk-last : p - 1 < 1024 → getD (walkAt w d p) d 0 ≡ getD w (4096 + (p - 1)) 0 % 1024
+  pub walk-last : p - 1 < 1024 → getD (walkAt w d p) d 0 ≡ arcIn (getD w (arcsAt + (p - 1)) 0)
   unfolding walkAt
   walk-last h =
       let z : d ≡ d + 0 = omega arith in
       ap (λ (j : ℕ). getD (onto (turns d w) (plan w) (arcIn (wordAt (plan w) (p - 1)) ∷ [])) j 0) z
       ∙ onto-behind d w (plan w) (arcIn (wordAt (plan w) (p - 1)) ∷ []) 0
-      ∙ ap (λ (x : ℕ). x % 1024) (word-at w (p - 1) h)
+      ∙ ap arcIn (word-at w (p - 1) h)
 
 -- ---- what the code asks
 
@@ -93,7 +93,7 @@ fits w c slot K =
 pub aside-none : (slot : ℕ) (w : List ℕ) → Aside slot w w
 aside-none slot w = record { long = refl; others = λ i h. refl }
 
-aside-set : (slot : ℕ) (w₀ w : List ℕ) (i x : ℕ) → Aside slot w₀ w → slot * 256 ≤ i → i < slot * 256 + 256 → Aside slot w₀ (set w i x)
+aside-set : (slot : ℕ) (w₀ w : List ℕ) (i x : ℕ) → Aside slot w₀ w → slotAt slot ≤ i → i < slotAt (slot + 1) → Aside slot w₀ (set w i x)
 aside-set slot w₀ w i x A h l =
     record {
       long = length-set w i x ∙ A .long;
@@ -105,42 +105,42 @@ module _ (slot : ℕ) (w₀ : List ℕ) (d p : ℕ) (F : Fits w₀ d p slot) whe
   keeping-none = record { aside = aside-none slot w₀; arcs = λ i h. absurd (omega arith) }
 
   -- what is read stands outside the slots
-  pub same : (n : ℕ) (w : List ℕ) → Keeping slot w₀ d p n w → (i : ℕ) → 4096 ≤ i → getD w i 0 ≡ getD w₀ i 0
+  pub same : (n : ℕ) (w : List ℕ) → Keeping slot w₀ d p n w → (i : ℕ) → arcsAt ≤ i → getD w i 0 ≡ getD w₀ i 0
   same n w K i h = K .aside .others i (inr (omega (arith, F .inside)))
 
-  more : (n x : ℕ) (w : List ℕ) → Keeping slot w₀ d p n w → n < 255 → x ≡ getD (walkAt w₀ d p) n 0 → Keeping slot w₀ d p (n + 1) (set w (slot * 256 + 1 + n) x)
+  more : (n x : ℕ) (w : List ℕ) → Keeping slot w₀ d p n w → n < 255 → x ≡ getD (walkAt w₀ d p) n 0 → Keeping slot w₀ d p (n + 1) (set w (slotAt slot + 1 + n) x)
   more n x w K h e =
       record {
-        aside = aside-set slot w₀ w (slot * 256 + 1 + n) x (K .aside) (omega arith) (omega arith);
+        aside = aside-set slot w₀ w (slotAt slot + 1 + n) x (K .aside) (omega arith) (omega arith);
         arcs = λ i l. elim (ℕ-discrete i n) [
-          | yes z ↦ rw z (getD-set-same w (slot * 256 + 1 + n) x 0 (omega (arith, K .aside .long, F .long, F .inside)) ∙ e)
-          | no z ↦ getD-set-other w (slot * 256 + 1 + n) (slot * 256 + 1 + i) x 0 (λ q. z (omega arith)) ∙ K .arcs i (omega arith)
+          | yes z ↦ rw z (getD-set-same w (slotAt slot + 1 + n) x 0 (omega (arith, K .aside .long, F .long, F .inside)) ∙ e)
+          | no z ↦ getD-set-other w (slotAt slot + 1 + n) (slotAt slot + 1 + i) x 0 (λ q. z (omega arith)) ∙ K .arcs i (omega arith)
         ];
       }
 
   -- an arc of a turn
   pub keeping-more : (n : ℕ) (w : List ℕ) → Keeping slot w₀ d p n w → n < d
-      → Keeping slot w₀ d p (n + 1) (set w (slot * 256 + 1 + n) (getD w (4096 + getD w (7425 + n) 0 % 1024) 0 % 1024))
+      → Keeping slot w₀ d p (n + 1) (set w (slotAt slot + 1 + n) (arcIn (getD w (arcsAt + placeIn (getD w (turnsAt + n) 0)) 0)))
   keeping-more n w K h =
       more n _ w K (omega (arith, F .depth))
-      (rw (same n w K (7425 + n) (omega arith), same n w K (4096 + getD w₀ (7425 + n) 0 % 1024) (omega arith)) (sym (walk-at w₀ d p n h)))
+      (rw (same n w K (turnsAt + n) (omega arith), same n w K (arcsAt + placeIn (getD w₀ (turnsAt + n) 0)) (omega arith)) (sym (walk-at w₀ d p n h)))
 
   -- the last arc, and how many there are
   pub keeping-all : (n : ℕ) (w : List ℕ) → Keeping slot w₀ d p n w → n ≡ d
-      → Kept slot w₀ d p (set (set w (slot * 256 + 1 + d) (getD w (4096 + (p - 1)) 0 % 1024)) (slot * 256) (d + 1))
+      → Kept slot w₀ d p (set (set w (slotAt slot + 1 + d) (arcIn (getD w (arcsAt + (p - 1)) 0))) (slotAt slot) (d + 1))
   keeping-all n w K e =
       let J : Keeping slot w₀ d p d w = rw e at K in
-      let x = getD w (4096 + (p - 1)) 0 % 1024 in
-      let v = set w (slot * 256 + 1 + d) x in
+      let x = arcIn (getD w (arcsAt + (p - 1)) 0) in
+      let v = set w (slotAt slot + 1 + d) x in
       let M : Keeping slot w₀ d p (d + 1) v =
-      more d x w J (F .depth) (rw (same d w J (4096 + (p - 1)) (omega arith)) (sym (walk-last w₀ d p (F .place)))) in
+      more d x w J (F .depth) (rw (same d w J (arcsAt + (p - 1)) (omega arith)) (sym (walk-last w₀ d p (F .place)))) in
       let len = walk-length w₀ d p in
       record {
-        aside = aside-set slot w₀ v (slot * 256) (d + 1) (M .aside) (omega arith) (omega arith);
+        aside = aside-set slot w₀ v (slotAt slot) (d + 1) (M .aside) (omega arith) (omega arith);
         stands = record {
-          count = getD-set-same v (slot * 256) (d + 1) 0 (omega (arith, M .aside .long, F .long, F .inside)) ∙ sym len;
+          count = getD-set-same v (slotAt slot) (d + 1) 0 (omega (arith, M .aside .long, F .long, F .inside)) ∙ sym len;
           few = omega (arith, F .depth);
-          arcs = λ i h. getD-set-other v (slot * 256) (slot * 256 + 1 + i) (d + 1) 0 (λ q. omega arith) ∙ M .arcs i (omega arith);
+          arcs = λ i h. getD-set-other v (slotAt slot) (slotAt slot + 1 + i) (d + 1) 0 (λ q. omega arith) ∙ M .arcs i (omega arith);
         };
       }
 
@@ -162,26 +162,18 @@ still-slot slot w v h A = record { long = A .long; same = λ i a b. A .others i 
 pub stands-turns : (slot : ℕ) (w v u : List ℕ) → slot < 16 → area.Kept w v → Stands w slot u → Stands v slot u
 stands-turns slot w v u h K S =
     record {
-      count = K .front (slot * 256) (omega arith) ∙ S .count;
+      count = K .front (slotAt slot) (omega arith) ∙ S .count;
       few = S .few;
-      arcs = λ i l. K .front (slot * 256 + 1 + i) (omega (arith, S .few)) ∙ S .arcs i l;
+      arcs = λ i l. K .front (slotAt slot + 1 + i) (omega (arith, S .few)) ∙ S .arcs i l;
     }
 
 -- and the cursor stays where it is while a slot is written
 module _ (slot : ℕ) (w v : List ℕ) (inside : slot < 16) (A : Aside slot w v) where
-  there : (i : ℕ) → 4096 ≤ i → getD v i 0 ≡ getD w i 0
+  there : (i : ℕ) → arcsAt ≤ i → getD v i 0 ≡ getD w i 0
   there i h = A .others i (inr (omega arith))
 
   pub plan-aside : plan v ≡ plan w
-  plan-aside =
-      ext-getD 0 (plan v) (plan w) same-length
-      (λ i l. let h : i < 1537 = omega (arith, short v, l) in plan-at v i h ∙ there (4096 + i) (omega arith) ∙ sym (plan-at w i h))
-    where
-      same-length : length (plan v) ≡ length (plan w)
-      same-length = unfold plan in simp (length-take, length-drop) (ap (λ (n : ℕ). min 1537 (n - 4096)) (A .long))
-
-      short : (u : List ℕ) → length (plan u) ≤ 1537
-      short u = unfold plan in omega (arith, length-take 1537 (drop 4096 u))
+  plan-aside = plan-same v w (A .long) (λ i l h. there i l)
 
   turns-aside : (d : ℕ) → turns d v ≡ turns d w
   unfolding turns
@@ -196,7 +188,7 @@ module _ (slot : ℕ) (w v : List ℕ) (inside : slot < 16) (A : Aside slot w v)
   on-aside s weight seed c O =
       let P = O .planned in
       let L = O .lower in
-      let same : (q : ℕ) → leastAt v q ≡ leastAt w q = λ q. there (5633 + q) (omega arith) in
+      let same : (q : ℕ) → leastAt v q ≡ leastAt w q = λ q. there (leastsAt + q) (omega arith) in
       record {
         planned = rw plan-aside P;
         lower = record {

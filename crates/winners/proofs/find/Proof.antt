@@ -5,23 +5,20 @@ use mathlib.Core.Path.{_≡_, refl, _∙_}
 use Prim.Native.Nat.{_-_, _≤_, _<_}
 use native.Mathlib.Omega.{arith}
 use lib.ListN.{length}
-use mir.Syntax.{w64}
-use mir.Val.{toZ}
-use mir.ValLaws.{toZ-ofZ}
 use Rattle.timing.specs.Table.{testCount}
 use Rattle.timing.specs.Laws.Accepted.{accepted}
-use Rattle.winners.specs.Finding.{Searching}
+use Rattle.winners.specs.Finding.{hintAt, Searching}
 use Rattle.winners.specs.Laws.Finding.{searching-none}
 use Rattle.winners.proofs.find.Statement.{statement}
 use Rattle.winners.proofs.find.Tie as tie
 
 abbrev Inv-loop : tie.InvT-loop
-Inv-loop table mode work₀ k hint bounds n found₀ j₀ work found j =
-    Searching table mode k (toZ w64 hint) j work (found .best .list) (found .best .count) (found .best .serial) (found .best .slots) (found .out)
+Inv-loop table mode work₀ k hints bounds n found₀ j₀ work found j =
+    Searching table mode k (hintAt (hints .high) (hints .low) (hints .last)) j work (found .best .list) (found .best .count) (found .best .serial) (found .best .slots) (found .out)
     × (j ≤ testCount table) × (n ≡ testCount table) × (length work ≡ length work₀)
 
 abbrev μ-loop : tie.MeasureT-loop
-μ-loop table mode work₀ k hint bounds n found₀ j₀ work found j = n - j
+μ-loop table mode work₀ k hints bounds n found₀ j₀ work found j = n - j
 
 test-count-requires : tie.Need-test-count-requires Inv-loop μ-loop
 test-count-requires c κs = search needs
@@ -77,7 +74,7 @@ returns c =
     let b = c .before in
     let s = b .before .before .before .before .before in
     let e : b .loop .j ≡ testCount (s .args .table .now) = omega (arith, c .loop-test .left, b .loop .inv .1, b .loop .inv .2) in
-    rw (toZ-ofZ w64 (s .args .hint) (s .fits .hint), e) at (b .loop .inv .0)
+    rw e at (b .loop .inv .0)
 
 pub find-spec : {M : Type 1} → statement M
 find-spec =

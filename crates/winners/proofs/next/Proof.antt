@@ -3,7 +3,7 @@
 use borrow.Author.Needs.{needs}
 use mir.Syntax.{w64}
 use mir.ValLaws.{toZ-ofZ}
-use Rattle.engine.specs.Sorting.{weighing}
+use Rattle.arcs.specs.Sorting.{weighing}
 use Rattle.timing.specs.Structure.{structure}
 use Rattle.laying.specs.Standing.{testSeed}
 use Rattle.winners.proofs.next.Statement.{statement}

@@ -29,13 +29,13 @@ use Rattle.timing.specs.declared.Candidate.{Candidate}
 use Rattle.area.specs.Area as clockArea
 use Rattle.laying.specs.Laws.Prepared.{prepared-same}
 use Rattle.area.specs.Area.{plan, countsAt}
-use Rattle.engine.specs.Laws.Made.{plan-at}
-use Rattle.engine.specs.Sorting.{weighing}
+use Rattle.area.specs.Laws.Plan.{plan-at}
+use Rattle.arcs.specs.Sorting.{weighing}
 use Rattle.laying.specs.Standing.{level, testSeed, Prepared, Lay}
 use Rattle.walker.specs.Cursors.{Planned}
 use Rattle.walker.specs.Leasts.{Laid, AllLeasts}
 use Rattle.walker.specs.Slots.{Stands, Still}
-use Rattle.walker.specs.Laws.Under.{below, Out, top-cut, top-is}
+use Rattle.lists.specs.Laws.Under.{below, Out, top-cut, top-is}
 use Rattle.lists.specs.Laws.Falling.{kept, Near, Falls, top-falling}
 use Rattle.winners.specs.Held.{slackIn, Told, Limit}
 use Rattle.winners.specs.Stored.{noPath, Stored}
@@ -157,11 +157,11 @@ module _ (t : Table) (mode : ℕ) (high low : ℤ) (last : ℕ) (near : Within 0
   abbrev pub hintOf : Path → ℤ
   hintOf p = hintAt high low last (p .test)
 
-  hint-near : (p : Path) → Near (slackIn t mode) hintOf low p
+  hint-near : (p : Path) → Near hintOf low p
   unfolding hintAt pick
   hint-near p = by-test (ltb last (p .test)) (λ e. rw e (omega arith, omega arith)) (λ e. rw e near)
 
-  hint-falls : (p q : Path) → p .test ≤ q .test → Falls (slackIn t mode) hintOf p q
+  hint-falls : (p q : Path) → p .test ≤ q .test → Falls hintOf p q
   unfolding hintAt pick
   hint-falls p q h =
       by-test (ltb last (p .test))
@@ -172,12 +172,12 @@ module _ (t : Table) (mode : ℕ) (high low : ℤ) (last : ℕ) (near : Within 0
   unfolding testPaths
   of-test n p i = ap (λ (q : Path). q .test) (in-each (path n) p (walks (structure t) (dataPin (structure t) n)) i .2)
 
-  falls : (n : ℕ) → Pairs (Falls (slackIn t mode) hintOf) (allTo t n)
+  falls : (n : ℕ) → Pairs (Falls hintOf) (allTo t n)
   unfolding allTo
   falls n =
-      pairs-gather (Falls (slackIn t mode) hintOf) (testPaths (structure t)) (parts.below n)
-      (λ j i. pairs-all (Falls (slackIn t mode) hintOf) (testPaths (structure t) j) (λ p q a b. hint-falls p q (omega (arith, of-test j p a, of-test j q b))))
-      (pairs-map _<_ (λ i j. (p q : Path) → In p (testPaths (structure t) i) → In q (testPaths (structure t) j) → Falls (slackIn t mode) hintOf p q)
+      pairs-gather (Falls hintOf) (testPaths (structure t)) (parts.below n)
+      (λ j i. pairs-all (Falls hintOf) (testPaths (structure t) j) (λ p q a b. hint-falls p q (omega (arith, of-test j p a, of-test j q b))))
+      (pairs-map _<_ (λ i j. (p q : Path) → In p (testPaths (structure t) i) → In q (testPaths (structure t) j) → Falls hintOf p q)
       (λ i j h p q a b. hint-falls p q (omega (arith, of-test i p a, of-test j q b))) (parts.below n) (pairs-below n))
 
   -- where k paths are found, or all are below their hints, the list holds the first k of all paths
@@ -188,7 +188,7 @@ module _ (t : Table) (mode : ℕ) (high low : ℤ) (last : ℕ) (near : Within 0
   first-found k (inl e) =
       rw (← tests-is t)
       (top-falling (slackIn t mode) hintOf low k (allTo t (tests (structure t))) (falls (tests (structure t)))
-      (of-all (Near (slackIn t mode) hintOf low) (allTo t (tests (structure t))) (λ p i. hint-near p))
+      (of-all (Near hintOf low) (allTo t (tests (structure t))) (λ p i. hint-near p))
       (rw (← tests-is t) at e))
   first-found k (inr a) =
       rw (← tests-is t)

@@ -32,7 +32,7 @@ use Rattle.timing.specs.Laws.Valued.{valued}
 use Rattle.timing.specs.declared.Candidate.{Candidate}
 use Rattle.timing.specs.Ranked.{listAfter}
 use Rattle.area.specs.Area.{none, plan}
-use Rattle.engine.specs.Sorting.{weighing}
+use Rattle.arcs.specs.Sorting.{weighing}
 use Rattle.laying.specs.Standing.{level, testSeed, Walks}
 use Rattle.laying.specs.Bounds.{recordOf, slackOf}
 use Rattle.laying.specs.Laws.Prepared.{test-small}
@@ -40,14 +40,14 @@ use Rattle.walker.specs.declared.Cursor.{Cursor}
 use Rattle.clocks.specs.Clocked.{Tested}
 use Rattle.clocks.specs.Kept.{clocked-same}
 use Rattle.ranked.specs.Laws.{after-length}
-use Rattle.walker.specs.Rest.{turnsEnd}
+use Rattle.area.specs.Area.{turnsEnd}
 use Rattle.walker.specs.Cursors.{Planned, beginAt, walkOf, found, coming, Kept}
 use Rattle.walker.specs.Laws.Steps.{found-one, found-not}
 use Rattle.walker.specs.Slots.{Keeps, Still}
 use Rattle.walker.specs.Slots as kept-in
 use Rattle.walker.specs.Laws.Gone.{begin-on, begin-all}
 use Rattle.walker.specs.Laws.Slots.{stands-turns, coming-aside, on-aside, still-slot}
-use Rattle.walker.specs.Laws.Under.{below, Out, top-cut, top-enter, last-above}
+use Rattle.lists.specs.Laws.Under.{below, Out, top-cut, top-enter, last-above}
 use Rattle.winners.specs.Held.{slackIn, Told, Holds, kept, nobody, Sized, Limit, Reach}
 use Rattle.winners.specs.Walking.{At, Under, Nexts, pathsOver, Gone, Going, Added}
 use Rattle.winners.specs.Stored.{noPath, Shelf, Stored, Entered}
