@@ -120,19 +120,19 @@ fn rows(
     ensures { λ _. ⌜ now (room .exit) ≡ written (gather (λ (r : List ℤ). r) (rowsIn (now (table .entry)) (now (work .entry)) list slots n)) (now (room .entry)) ⌝ }
 {
     let size = tables::pin_count(table) + HEAD;
-    let mut i = 0;
+    let mut place = 0;
     let mut at = 0;
-    while i < n {
-        let c = list[i];
-        let slot = slots[i] as usize;
+    while place < n {
+        let c = list[place];
+        let slot = slots[place] as usize;
         let end = at + size;
         row_of(table, work, c, slot, &mut room[at..end]);
         at = end;
-        i += 1;
+        place += 1;
     }
 }
 
-// The row of a record: its walk stands in a slot of the work area, the start is the pin that the walk's last arc leaves, and the credit is worked out again.
+// The row of a record whose walk stands in a slot of the work area. The start is the pin that the walk's last arc leaves; start and clock pin give the credit.
 fn row_of(table: &[u32], work: &[u64], c: Candidate, slot: usize, row: &mut [i64])
     requires { ⌜ Rowed (now table) (now work) c slot (length (now row)) ⌝ }
     ensures { λ _. ⌜ now (row .exit) ≡ rowIn (now (table .entry)) (now (work .entry)) c slot ⌝ }

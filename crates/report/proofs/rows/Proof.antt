@@ -54,10 +54,10 @@ unfolding rowsIn each gather below
 begin t w list slots n size room₀ = record { index = omega arith; offset = sym (zero-mul size); so-far = wrote-none room₀; len = refl }
 
 abbrev Inv-loop : tie.InvT-loop
-Inv-loop table work n room₀ list slots size i₀ at₀ room i at = So table work list slots n size room₀ room i at
+Inv-loop table work n room₀ list slots size place₀ at₀ room place at = So table work list slots n size room₀ room place at
 
 abbrev μ-loop : tie.MeasureT-loop
-μ-loop table work n room₀ list slots size i₀ at₀ room i at = n - i
+μ-loop table work n room₀ list slots size place₀ at₀ room place at = n - place
 
 pin-count-requires : tie.Need-pin-count-requires Inv-loop μ-loop
 pin-count-requires c κs = search needs
@@ -74,7 +74,7 @@ inroom c =
     let s = c .before .before .before .before .before in
     let l = c .before .loop in
     rw (l .inv .len)
-    (row-room (s .args .n) (c .before .before .pin-count .result + headLength) (l .i) (l .at) (length (s .args .room .now)) (l .inv .offset) (c .loop-test .taken)
+    (row-room (s .args .n) (c .before .before .pin-count .result + headLength) (l .place) (l .at) (length (s .args .room .now)) (l .inv .offset) (c .loop-test .taken)
     (rw (c .before .before .pin-count .ensures) (s .pre .room)))
 
 mul-c : tie.Need-mul-c Inv-loop μ-loop
@@ -87,7 +87,7 @@ array-read-slot : tie.Need-array-read-slot Inv-loop μ-loop
 array-read-slot c = search needs
 
 cast-slot : tie.Need-cast-slot Inv-loop μ-loop
-cast-slot c = omega (arith, c .before .before .before .before .before .before .pre .tells (c .before .before .loop .i) (c .before .loop-test .taken) .inside)
+cast-slot c = omega (arith, c .before .before .before .before .before .before .pre .tells (c .before .before .loop .place) (c .before .loop-test .taken) .inside)
 
 add-end : tie.Need-add-end Inv-loop μ-loop
 add-end c = omega (arith, inroom (c .before))
@@ -110,12 +110,12 @@ row-of-requires c κs =
     let s = l .before .before .before .before .before in
     record {
       clocked = s .pre .clocked;
-      tells = s .pre .tells (l .before .loop .i) (l .loop-test .taken);
+      tells = s .pre .tells (l .before .loop .place) (l .loop-test .taken);
       room = simp (length-take, length-drop) (omega (arith, inroom l, l .before .before .pin-count .ensures));
     }
 
-add-i : tie.Need-add-i Inv-loop μ-loop
-add-i c = search needs
+add-place : tie.Need-add-place Inv-loop μ-loop
+add-place c = search needs
 
 loop-less : tie.Need-loop-less Inv-loop μ-loop
 loop-less c = search needs
@@ -126,7 +126,7 @@ loop-again c =
     let s = l .before .before .before .before .before in
     let r = c .before .row-of in
     one-more (s .args .table .now) (s .args .work .now) (s .args .t3) (s .args .t4) (s .args .n) (l .before .before .pin-count .result + headLength) (s .args .room .now) (l .before .loop .room) _
-    (r .last .1 .1 .1 .1 .0) (l .before .loop .i) (l .before .loop .at) (l .before .loop .inv) (l .loop-test .taken) (r .ensures) (r .kept .1 .1 .1 .1 .0)
+    (r .last .1 .1 .1 .1 .0) (l .before .loop .place) (l .before .loop .at) (l .before .loop .inv) (l .loop-test .taken) (r .ensures) (r .kept .1 .1 .1 .1 .0)
     (rw (l .before .before .pin-count .ensures) (s .pre .room)) refl
 
 same-length : tie.Need-same-length Inv-loop μ-loop
@@ -136,7 +136,7 @@ returns : tie.Need-returns Inv-loop μ-loop
 returns c =
     let l = c .before .loop in
     let s = c .before .before .before .before .before in
-    let e : l .i ≡ s .args .n = omega (arith, l .inv .index) in
+    let e : l .place ≡ s .args .n = omega (arith, l .inv .index) in
     rw e at (wrote-all _ (l .room) (s .args .room .now) (l .at) (l .inv .so-far))
 
 pub rows-spec : {M : Type 1} → statement M
@@ -158,7 +158,7 @@ rows-spec =
     part-row-of-start
     part-row-of-end
     row-of-requires
-    add-i
+    add-place
     loop-less
     loop-again
     same-length
