@@ -1,30 +1,30 @@
--- The answer to an asking that is not refused, from the winners of all tests.
---
--- The ranked list holds the best 16 of all tests. Its first k, or all if fewer, are the best k, and their rows are the rows of the table.
+-- The answer to an asking that is not refused: the list tells the first k paths, and their rows are the rows of the table.
 -- Assumes nothing.
-use mathlib.Core.Path.{_≡_, sym, ap, ap₂, subst, _∙_}
+use mathlib.Core.Path.{_≡_, sym, ap, ap₂, _∙_}
 use mathlib.Core.Bool.{false, _||_}
 use mathlib.Core.List.{List, [], _∷_, _++_, append-nil}
 use mathlib.Core.Option.{Option, none, some}
-use Prim.Native.Nat.{ℕ, _*_, _≤_, min}
+use Prim.Native.Nat.{ℕ, _*_, _≤_, _<_}
 use native.Mathlib.Nat.{mul-le-mul-right}
 use native.Mathlib.Omega.{arith}
-use native.Mathlib.Decide.{decLe}
-use borrow.Author.Tests.{ltb-false}
+use borrow.Author.Tests.{ltb-false, eqb-false}
 use lib.Dec.{eqb, ltb}
-use lib.ListN.{length, take, drop, replicate, length-take, length-replicate, drop-of-length-le}
-use lib.Seq.{take-take, take-all, take-length}
+use lib.ListN.{length, getD, take, drop, replicate, length-replicate, drop-of-length-le}
+use lib.Seq.{length-take-le, getD-take}
 use lib.IntN.{ℤ}
 use Rattle.lists.specs.Choice.{ground}
 use Rattle.lists.specs.Parts.{below, each, gather, written}
 use Rattle.lists.specs.Laws.Cases.{or-none}
-use Rattle.lists.specs.Laws.Member.{In, in-below, length-each}
-use Rattle.lists.specs.Laws.Ranking.{perm-same}
+use Rattle.lists.specs.Laws.Member.{in-below, in-take, each-cong, length-each}
+use Rattle.lists.specs.Laws.Pieces.{in-place, each-each, each-place}
+use Rattle.lists.specs.Laws.Ranking.{both-at}
 use Rattle.lists.specs.Laws.Unmet.{Unmet, unmet-none, unmet-first, unmet-rest, unmet-left, unmet-right}
 use Rattle.timing.specs.Limits.{mostK, workLength}
-use Rattle.timing.specs.Table.{Table, pinCount}
-use Rattle.timing.specs.Structure.{tests, structure, times}
-use Rattle.timing.specs.Rows.{modeOf, rowLength, total}
+use Rattle.timing.specs.Table.{Table, pinCount, testCount}
+use Rattle.timing.specs.Structure.{structure, times}
+use Rattle.timing.specs.Paths.{Path, path}
+use Rattle.timing.specs.Slack.{ranked}
+use Rattle.timing.specs.Rows.{modeOf, rowLength, row, firstPaths, rows, total}
 use Rattle.timing.specs.Check.{tableGrounds, tableFault}
 use Rattle.timing.specs.Asked.{askingBad, roomBad, askingGrounds, askingFault, tableRows, answerOf, answer, roomOf, roomAfter, workOf, workAfter}
 use Rattle.timing.specs.declared.Answer.{Answer}
@@ -32,21 +32,19 @@ use Rattle.timing.specs.declared.Answer.the-variants.{Given, Refused}
 use Rattle.timing.specs.declared.Candidate.{Candidate}
 use Rattle.timing.specs.declared.Refusal.{Refusal}
 use Rattle.timing.specs.declared.Refusal.the-variants.{ModeOrK, RowRoom}
-use Rattle.timing.specs.Laws.Accepted.{accepted, accepted-level}
-use Rattle.timing.specs.Laws.Columns.{tests-is}
-use Rattle.worst.specs.Candidates.{candidatesOf, rankedList}
-use Rattle.worst.specs.Laws.Merged.{in-candidates}
-use Rattle.worst.specs.Laws.Kept.{Holds, list-in, list-cut, list-rows}
-use Rattle.winners.specs.Standing.{level, Prepared}
-use Rattle.winners.specs.Winning.{AllWinners}
-use Rattle.report.specs.Rowed.{rowIn}
-use Rattle.report.specs.Writing.{Real, Writes, rowsIn}
+use Rattle.timing.specs.Laws.Order.{ranked-paths}
+use Rattle.winners.specs.Held.{slackIn, Told, nobody}
+use Rattle.winners.specs.Stored.{noPath}
+use Rattle.winners.specs.Finding.{Won}
+use Rattle.report.specs.Rowed.{walkIn, pathIn, rowIn, Tells, walk-is, row-is}
+use Rattle.report.specs.Writing.{Writes, rowsIn}
 
 -- ---- what is asked and answered
 
 -- an asking that is not refused: a checked table, k within its limits, room for k rows, and the work area
 pub record Granted (t : Table) (k room work : ℕ) : Type 0 where
   pub checked : tableFault t ≡ none
+  pub some : 0 < k
   pub few : k ≤ mostK
   pub places : k * rowLength (pinCount t) ≤ room
   pub area : workLength ≤ work
@@ -70,70 +68,85 @@ granted t mode k room work h =
     let b14 : askingBad mode k ≡ false = unmet-first (askingBad mode k) ModeOrK from15 r in
     let b15 : roomBad (pinCount t) k room work ≡ false = unmet-first (roomBad (pinCount t) k room work) RowRoom [] (unmet-rest r) in
     let two = or-none (ltb room (k * rowLength (pinCount t))) (ltb work workLength) b15 in
+    let out = or-none (ltb 1 mode || eqb k 0) (ltb mostK k) b14 in
+    let not-none = eqb-false k 0 (or-none (ltb 1 mode) (eqb k 0) (out .0) .1) in
     record {
       checked = unmet-none (tableGrounds t) .1 (unmet-left (tableGrounds t) from14 all);
-      few = ltb-false mostK k (or-none (ltb 1 mode || eqb k 0) (ltb mostK k) b14 .1);
+      some = omega arith;
+      few = ltb-false mostK k (out .1);
       places = ltb-false room (k * rowLength (pinCount t)) (two .0);
       area = ltb-false work workLength (two .1);
     }
 
--- the first n of a list that holds l, where n is the smaller of k and how many there are
-held-front : (list l : List Candidate) (count k n : ℕ) → Holds mostK list count l → n ≡ min k count → take n list ≡ take k l
-held-front list l count k n h e =
-    sym (take-take n count list (omega arith)) ∙ ap (take n) (h .front) ∙ cut
-  where
-    cut : take n l ≡ take k l
-    cut = elim (decLe k count) [
-      | yes q ↦ let f : n ≡ k = omega arith in ap (λ (i : ℕ). take i l) f
-      | no q ↦ let f : n ≡ length l = omega (arith, h .counted) in ap (λ (i : ℕ). take i l) f ∙ take-length l ∙ sym (take-all k l (omega (arith, h .counted)))
-    ]
+module _ (t : Table) (mode k : ℕ) (w : List ℕ) (list : List Candidate) (count : ℕ) (slots : List ℕ) (few : k ≤ mostK) (W : Won t mode k w list count slots) where
+  -- the first k paths
+  abbrev first : List Path
+  first = firstPaths (modeOf mode) (structure t) (times t) k
 
-module _ (t : Table) (mode k : ℕ) (list : List Candidate) (count : ℕ) (h : tableFault t ≡ none) (few : k ≤ mostK) (W : AllWinners t mode list count) (n : ℕ) (e : n ≡ min k count) where
-  abbrev best : ℕ → List Candidate
-  best i = rankedList (modeOf mode) level (structure t) (times t) i (below (tests (structure t)))
+  long : workLength ≤ length w
+  long = W .prepared .clocked .ready .room
 
-  -- they are the best k of all tests
-  first-are : take n list ≡ best k
-  first-are = held-front list (best mostK) count k n W e ∙ list-cut (modeOf mode) level (structure t) (times t) k mostK (below (tests (structure t))) few
+  module _ (i : ℕ) (l : i < count) where
+    -- the record at place i and its slot
+    abbrev c : Candidate
+    c = getD list i nobody
 
-  first-real : (c : Candidate) → In c (take n list) → Real t mode c
-  first-real c i =
-      let q = list-in (modeOf mode) level (structure t) (times t) k (below (tests (structure t))) c (rw first-are at i) in
-      let j : c .test ≡ q .0 = in-candidates (modeOf mode) level (structure t) (times t) (q .0) c (q .2) .0 in
+    abbrev n : ℕ
+    n = getD slots i 0
+
+    told : Told (slackIn t mode) (testCount t) (W .serial) c (getD first i noPath)
+    told =
+        let H = W .holds in
+        let e : length (take count list) ≡ count = length-take-le count list (omega (arith, H .places, H .counted, H .few)) in
+        rw (getD-take count list i nobody l) at (both-at (Told (slackIn t mode) (testCount t) (W .serial)) (take count list) first (H .both) i (rw e l) nobody noPath)
+
+    inside : n < mostK
+    inside = W .shelf .inside i (omega (arith, W .holds .counted, W .holds .few))
+
+    walk : walkIn w n ≡ getD first i noPath .walk
+    walk = walk-is w n (getD first i noPath .walk) long inside (W .stored i (omega (arith, W .holds .counted)))
+
+    -- they tell the path at place i
+    path-is : pathIn w c n ≡ getD first i noPath
+    path-is = ap₂ path (told .of) walk
+
+    tells-at : Tells t w c n
+    unfolding firstPaths
+    tells-at =
+        let m = modeOf mode in
+        let R = ranked m (structure t) (times t) in
+        record {
+          inside = inside;
+          stands = rw walk (W .stored i (omega (arith, W .holds .counted)));
+          is-path = rw path-is (ranked-paths m (structure t) (times t) (getD first i noPath) (in-take (getD first i noPath) k R (in-place noPath first i (omega (arith, W .holds .counted)))));
+        }
+
+  -- there is room for their rows
+  pub won-writes : (places : ℕ) → k * rowLength (pinCount t) ≤ places → Writes t w list slots count places
+  won-writes places r =
+      let q : count ≤ k = omega (arith, W .holds .counted, W .holds .few) in
       record {
-        test = rw (j, ← (tests-is t)) (in-below (q .0) (tests (structure t)) (q .1));
-        candidate = subst (λ (i : ℕ). In c (candidatesOf (modeOf mode) level (structure t) (times t) i)) (sym j) (q .2);
-      }
-
-  -- and there is room for their rows
-  pub first-writes : (w : List ℕ) (places : ℕ) → Prepared t mode w → k * rowLength (pinCount t) ≤ places → Writes t mode w list n places
-  first-writes w places p r =
-      let q : n ≤ k = omega arith in
-      record {
-        prepared = p;
-        whole = W .places;
+        clocked = W .prepared .clocked;
         few = omega arith;
-        real = first-real;
+        tells = tells-at;
         room = omega (arith, mul-le-mul-right (rowLength (pinCount t)) q);
       }
 
-  rows-each : each (rowIn t mode) (take n list) ≡ tableRows t mode k
-  unfolding tableRows
-  rows-each =
-      let a = accepted t h in
-      ap (each (rowIn t mode)) first-are
-      ∙ rw (accepted-level t h) at (list-rows (structure t) (a .sound) (times t) (a .ranged) (modeOf mode) k few {js = below (tests (structure t))} (perm-same (below (tests (structure t)))))
-
-  -- the rows of the table
-  pub rows-are : rowsIn t mode (take n list) ≡ gather (λ (l : List ℤ). l) (tableRows t mode k)
-  unfolding rowsIn
-  rows-are = ap (gather (λ (l : List ℤ). l)) rows-each
+  -- which are those of the table
+  pub rows-are : rowsIn t w list slots count ≡ tableRows t mode k
+  unfolding rowsIn tableRows rows
+  rows-are =
+      let m = modeOf mode in
+      let f : Path → List ℤ = row m (structure t) (times t) in
+      each-cong (λ (i : ℕ). rowIn t w (getD list i nobody) (getD slots i 0)) (λ (i : ℕ). f (getD first i noPath)) (below count)
+      (λ i h. let l = in-below i count h in row-is t m w (c i l) (n i l) (getD first i noPath) (path-is i l) (told i l .slack))
+      ∙ sym (each-each f (λ (i : ℕ). getD first i noPath) (below count))
+      ∙ rw (W .holds .counted) (ap (each f) (each-place noPath first))
 
   -- as many as are given
-  pub rows-count : n ≡ length (tableRows t mode k)
-  rows-count =
-      let l : length (take n list) ≡ n = length-take n list ∙ omega (arith, W .counted, W .few, W .places) in
-      sym l ∙ sym (length-each (rowIn t mode) (take n list)) ∙ ap length rows-each
+  pub rows-count : count ≡ length (tableRows t mode k)
+  unfolding tableRows rows
+  rows-count = W .holds .counted ∙ sym (length-each (row (modeOf mode) (structure t) (times t)) first)
 
 -- ---- the memory
 

@@ -1,4 +1,4 @@
--- The asking: a row as it is written, the row of a candidate, the rows of several, the answer.
+-- The asking: a row as it is written, the row of a record, the rows of several, the answer.
 pub mod Row
 pub mod Rowed
 pub mod Writing

@@ -1,4 +1,4 @@
--- A row of the answer as it is written: five numbers, then the arcs of a walk turned round, then zeros.
+-- A row of the answer as it is written: its head of five numbers, then the arcs of a walk turned round, then zeros.
 -- Assumes nothing.
 use mathlib.Core.Path.{_≡_, sym, ap, ap₂, _∙_}
 use mathlib.Core.List.{List, [], _∷_, _++_, reverse, reverse-cons}
@@ -17,7 +17,10 @@ use Rattle.lists.specs.Laws.Join.{each-join}
 abbrev pub signed : ℕ
 signed = 9223372036854775808
 
--- slack, credit, test, start pin, arc count
+-- slack, credit, test, start pin, arc count: as many numbers stand before the arcs
+abbrev pub headLength : ℕ
+headLength = 5
+
 abbrev pub headOf : ℤ → ℕ → ℕ → ℕ → ℕ → List ℤ
 headOf slack credit test start n = slack ∷ pos credit ∷ pos test ∷ pos start ∷ pos n ∷ []
 
@@ -25,7 +28,7 @@ headOf slack credit test start n = slack ∷ pos credit ∷ pos test ∷ pos sta
 unfoldable pub arcPlaces : ℕ → List ℕ → List ℤ
 arcPlaces p walk = each pos (reverse walk) ++ replicate (p - length walk) (pos 0)
 
--- the whole row of p + 5 places
+-- the whole row
 abbrev pub rowOf : ℕ → ℤ → ℕ → ℕ → ℕ → List ℕ → List ℤ
 rowOf p slack credit test start walk = headOf slack credit test start (length walk) ++ arcPlaces p walk
 
@@ -45,7 +48,7 @@ pub record Backwards (w : List ℕ) (at n : ℕ) : Type 0 where
 pub record Puts (w : List ℕ) (at credit test start n places : ℕ) : Type 0 where
   pub fits : Fits credit test start n
   pub walk : Backwards w at n
-  pub room : n + 5 ≤ places
+  pub room : n + headLength ≤ places
 
 -- ---- laws
 

@@ -1,235 +1,190 @@
--- One candidate's row: what is asked of the work area, and what tracing its walk there tells.
+-- One row: what is asked of the work area, and what it tells.
 --
--- A candidate stands for a path over one of the best walks of its test. The walk is traced to the free part of the work area; its last arc leaves the start,
--- start and clock pin give the credit, and the candidate has the slack: that is the row, and nothing before the free part has changed.
+-- A record has the slack and the test of a path, its slot the walk. The walk's last arc leaves the start, start and clock pin give the credit: that is the row.
 -- Assumes nothing.
-use mathlib.Core.Path.{_≡_, refl, sym, ap, ap₂, _∙_}
+use mathlib.Core.Path.{_≡_, refl, sym, ap, _∙_}
 use mathlib.Core.Option.{none}
 use mathlib.Core.List.{List, [], _∷_}
-use Prim.Native.Nat.{ℕ, suc, _+_, _-_, _≤_, _<_}
+use Prim.Native.Nat.{ℕ, suc, _+_, _-_, _*_, _≤_, _<_}
 use native.Mathlib.Nat.{not-suc-le-zero}
 use native.Mathlib.Omega.{arith}
-use lib.ListN.{length, getD, take, drop, length-take}
-use lib.Seq.{getD-take, getD-drop}
+use lib.ListN.{length, getD, take, drop}
+use lib.Seq.{getD-take, getD-drop, ext-getD}
 use lib.IntN.{ℤ}
 use Rattle.lists.specs.Parts.{last}
 use Rattle.lists.specs.Laws.Member.{In}
 use Rattle.lists.specs.Laws.Pieces.{in-place}
-use Rattle.timing.specs.Limits.{mostK}
-use Rattle.timing.specs.Table.{Table, pinCount, arcFrom, testClock, testData}
-use Rattle.timing.specs.Structure.{Structure, pins, tests, dataPin, structure, times}
-use Rattle.timing.specs.Paths.{Path, start, walks}
-use Rattle.timing.specs.Slack.{pathCredit}
-use Rattle.timing.specs.Value.{creditFrom, rankedWalks}
-use Rattle.timing.specs.Rows.{modeOf, rowLength, row}
+use Rattle.timing.specs.Limits.{mostK, workLength}
+use Rattle.timing.specs.Table.{Table, pinCount, testCount, arcFrom, testClock}
+use Rattle.timing.specs.Structure.{Structure, dataPin, structure, times}
+use Rattle.timing.specs.Paths.{Path, path, start, paths}
+use Rattle.timing.specs.Slack.{Mode, forSetup, pathCredit, slack}
+use Rattle.timing.specs.Value.{creditFrom}
+use Rattle.timing.specs.Rows.{rowLength, row}
 use Rattle.timing.specs.Check.{tableFault}
 use Rattle.timing.specs.declared.Candidate.{Candidate}
 use Rattle.timing.specs.Laws.Sound.{Sound}
 use Rattle.timing.specs.Laws.Accepted.{accepted}
-use Rattle.timing.specs.Laws.Columns.{pins-is, arcs-is, tests-is, leaves-is, clock-is, data-is}
-use Rattle.timing.specs.Laws.Walked.{Walk, walks-sound, last-arc, walk-rises, walk-arcs}
-use Rattle.worst.specs.Candidates.{testWalks, bestWalks, candidatesOf, pathOf}
-use Rattle.worst.specs.Laws.Merged.{in-candidates, candidate-walk}
-use Rattle.area.specs.Area.{turnsAt}
-use Rattle.clocks.specs.Clocked.{Credited}
-use Rattle.clocks.specs.Known.{test-clock, test-data}
+use Rattle.timing.specs.Laws.Columns.{pins-is, arcs-is, tests-is, leaves-is, clock-is}
+use Rattle.timing.specs.Laws.Walked.{Walk, last-arc, walk-rises, walk-arcs}
+use Rattle.timing.specs.Laws.Listed.{IsPath, in-paths}
+use Rattle.area.specs.Area.{slotAt}
+use Rattle.clocks.specs.Clocked.{Clocked, Asks, Credited}
+use Rattle.clocks.specs.Known.{test-clock}
 use Rattle.clocks.specs.Small.{credit-most}
-use Rattle.area.specs.Area.{plan}
-use Rattle.arcs.specs.Asked.{AtRank, Room, Walked}
-use Rattle.arcs.specs.Sorting.{weighing}
-use Rattle.arcs.specs.Laws.Traced.{entries-count}
-use Rattle.winners.specs.Laws.Prepared.{standing-kept}
-use Rattle.winners.specs.Laws.Entered.{data-at}
-use Rattle.winners.specs.Standing.{level, testSeed, Standing}
-use Rattle.report.specs.Row.{signed, arcPlaces, rowOf, Puts}
+use Rattle.walker.specs.Slots.{Stands}
+use Rattle.report.specs.Row.{signed, headLength, arcPlaces, rowOf, Puts, walk-length}
 
--- where a walk is written: behind what the clock side keeps
-abbrev pub walkPlace : ℕ
-walkPlace = turnsAt
+-- the walk in slot n
+unfoldable pub walkIn : List ℕ → ℕ → List ℕ
+walkIn w n = take (getD w (slotAt n) 0) (drop (slotAt n + 1) w)
 
--- the path that a candidate of the table stands for
-abbrev pub pathIn : Table → ℕ → Candidate → Path
-pathIn t mode c = pathOf (modeOf mode) level (structure t) (times t) c
+-- the path of a record whose walk stands there
+abbrev pub pathIn : List ℕ → Candidate → ℕ → Path
+pathIn w c n = path (c .test) (walkIn w n)
 
--- its row
-abbrev pub rowIn : Table → ℕ → Candidate → List ℤ
-rowIn t mode c = row (modeOf mode) (structure t) (times t) (pathIn t mode c)
+-- its row, with the slack of the record; the credit is the same in both modes
+unfoldable pub rowIn : Table → List ℕ → Candidate → ℕ → List ℤ
+rowIn t w c n =
+    rowOf (pinCount t) (c .slack) (pathCredit forSetup (structure t) (times t) (pathIn w c n)) (c .test) (start (structure t) (pathIn w c n)) (walkIn w n)
 
--- a candidate of the test that stands, and the places of one row
-pub record Rowed (t : Table) (mode : ℕ) (w : List ℕ) (c : Candidate) (places : ℕ) : Type 0 where
-  pub standing : Standing t mode (c .test) w
-  pub candidate : In c (candidatesOf (modeOf mode) level (structure t) (times t) (c .test))
+-- record and slot tell a path of the table
+pub record Tells (t : Table) (w : List ℕ) (c : Candidate) (n : ℕ) : Type 0 where
+  pub inside : n < mostK
+  pub stands : Stands w n (walkIn w n)
+  pub is-path : In (pathIn w c n) (paths (structure t))
+
+-- and its row has its places
+pub record Rowed (t : Table) (w : List ℕ) (c : Candidate) (n places : ℕ) : Type 0 where
+  pub clocked : Clocked t w
+  pub tells : Tells t w c n
   pub room : places ≡ rowLength (pinCount t)
 
 -- ---- laws
 
 -- the last of a list by its place
-pub last-at : (w : List ℕ) (d : ℕ) → 1 ≤ length w → getD w (length w - 1) 0 ≡ last d w
+last-at : (u : List ℕ) (d : ℕ) → 1 ≤ length u → getD u (length u - 1) 0 ≡ last d u
 unfolding last
 last-at [] d h = absurd (not-suc-le-zero h)
 last-at (a ∷ []) d h = refl
-last-at (a ∷ b ∷ w) d h =
-    let e : suc (suc (length w)) - 1 ≡ suc (suc (length w) - 1) = omega arith in
-    ap (λ (n : ℕ). getD (a ∷ b ∷ w) n 0) e ∙ last-at (b ∷ w) a (omega arith)
+last-at (a ∷ b ∷ u) d h =
+    let e : suc (suc (length u)) - 1 ≡ suc (suc (length u) - 1) = omega arith in
+    ap (λ (n : ℕ). getD (a ∷ b ∷ u) n 0) e ∙ last-at (b ∷ u) a (omega arith)
 
 -- a walk has an arc
-some-arcs : (s : Structure) (v : ℕ) (w : List ℕ) → Walk s v w → 1 ≤ length w
+some-arcs : (s : Structure) (v : ℕ) (u : List ℕ) → Walk s v u → 1 ≤ length u
 some-arcs s v [] k = absurd k
-some-arcs s v (a ∷ w) k = omega arith
+some-arcs s v (a ∷ u) k = omega arith
 
-module _ (t : Table) (mode : ℕ) (w : List ℕ) (c : Candidate) (S : Standing t mode (c .test) w)
-    (i : In c (candidatesOf (modeOf mode) level (structure t) (times t) (c .test))) where
-  -- the structure, the path, and the pin where it ends
+-- what stands in a slot is what is read from it
+pub walk-is : (w : List ℕ) (n : ℕ) (u : List ℕ) → workLength ≤ length w → n < mostK → Stands w n u → walkIn w n ≡ u
+unfolding walkIn
+walk-is w n u r i S =
+    let m = getD w (slotAt n) 0 in
+    let from = slotAt n + 1 in
+    let l : length (take m (drop from w)) ≡ m = walk-length w from m (omega (arith, S .count, S .few)) in
+    ext-getD 0 (take m (drop from w)) u (l ∙ S .count)
+    (λ j h. getD-take m (drop from w) j 0 (omega arith) ∙ getD-drop from w j 0 ∙ S .arcs j (omega (arith, S .count)))
+
+-- the row of a path, where the record has its slack
+pub row-is : (t : Table) (m : Mode) (w : List ℕ) (c : Candidate) (n : ℕ) (p : Path) → pathIn w c n ≡ p → c .slack ≡ slack m (structure t) (times t) p
+    → rowIn t w c n ≡ row m (structure t) (times t) p
+unfolding rowIn row arcPlaces pathCredit
+row-is t m w c n p e f =
+    let s = structure t in
+    let q = pathIn w c n in
+    rw (← e, pins-is t) (ap (λ (x : ℤ). rowOf (pinCount t) x (pathCredit m s (times t) q) (c .test) (start s q) (walkIn w n)) (rw (← e) at f))
+
+module _ (t : Table) (w : List ℕ) (c : Candidate) (n : ℕ) (C : Clocked t w) (T : Tells t w c n) where
   abbrev s : Structure
   s = structure t
 
   abbrev p : Path
-  p = pathIn t mode c
-
-  abbrev end : ℕ
-  end = testData t (c .test)
+  p = pathIn w c n
 
   fine : tableFault t ≡ none
-  fine = S .prepared .clocked .ready .checked
+  fine = C .ready .checked
 
   abbrev ok : Sound s
   ok = accepted t fine .sound
 
-  place : c .test < tests s
-  place = rw (tests-is t) (S .test)
+  is-path : IsPath s p
+  is-path = in-paths s p (T .is-path)
 
-  same-data : dataPin s (c .test) ≡ end
-  same-data = data-is t (c .test) (S .test)
+  -- its test is one of the table
+  test-in : c .test < testCount t
+  test-in = rw (tests-is t) at (is-path .0)
 
-  data-in : end < pinCount t
-  data-in = test-data t fine (c .test) (S .test)
-
-  best : c .serial < length (bestWalks (modeOf mode) level s (times t) (c .test))
-  best = in-candidates (modeOf mode) level s (times t) (c .test) c i .1
-
-  -- its path runs over a walk
-  is-walk : Walk s (dataPin s (c .test)) (p .walk)
-  unfolding walks
-  is-walk = walks-sound s (pins s) (dataPin s (c .test)) (p .walk) (candidate-walk (modeOf mode) level s (times t) (c .test) c i)
-
-  -- of one arc at least
-  pub arcs-some : 1 ≤ length (p .walk)
-  arcs-some = some-arcs s (dataPin s (c .test)) (p .walk) is-walk
+  -- the walk has one arc at least
+  arcs-some : 1 ≤ length (walkIn w n)
+  arcs-some = some-arcs s (dataPin s (c .test)) (walkIn w n) (is-path .1)
 
   -- and fewer than there are pins
-  pub arcs-few : length (p .walk) < pinCount t
+  arcs-few : length (walkIn w n) < pinCount t
   arcs-few =
-      let r = walk-rises s ok (dataPin s (c .test)) (p .walk) is-walk in
-      let v = ok .level-in (dataPin s (c .test)) (ok .data-in (c .test) place) in
+      let r = walk-rises s ok (dataPin s (c .test)) (walkIn w n) (is-path .1) in
+      let v = ok .level-in (dataPin s (c .test)) (ok .data-in (c .test) (is-path .0)) in
       omega (arith, r, v, pins-is t)
 
   -- each with a number below 1,024
-  pub arcs-low : (n : ℕ) → n < length (p .walk) → getD (p .walk) n 0 < 1024
-  arcs-low n l =
-      let a = walk-arcs s ok (dataPin s (c .test)) (p .walk) is-walk (getD (p .walk) n 0) (in-place 0 (p .walk) n l) .0 in
+  arcs-low : (i : ℕ) → i < length (walkIn w n) → getD (walkIn w n) i 0 < 1024
+  arcs-low i l =
+      let a = walk-arcs s ok (dataPin s (c .test)) (walkIn w n) (is-path .1) (getD (walkIn w n) i 0) (in-place 0 (walkIn w n) i l) .0 in
       omega (arith, a, arcs-is t, accepted t fine .header .few-arcs)
 
-  -- ---- tracing: v is the work area with the walk, n its arcs
+  -- slot and number of arcs are within the work area
+  slot-in : slotAt n + getD w (slotAt n) 0 < length w
+  slot-in = omega (arith, T .inside, T .stands .count, T .stands .few, C .ready .room)
 
-  -- the data pin has an entry at the candidate's serial
-  pub at-rank : AtRank w end (c .serial)
-  unfolding bestWalks weighing
-  at-rank =
-      let a = data-at t mode (c .test) w S in
-      let q : end < pins s = rw (pins-is t) data-in in
-      let n = entries-count s (weighing t mode) (testSeed t mode (c .test)) (plan w) (S .laid) end q (a .other) in
-      record { at = a; real = rw (n, ← same-data) best }
+  -- the last arc read backwards leaves the start
+  pub start-is : arcFrom t (getD w (slotAt n + getD w (slotAt n) 0) 0) ≡ start s p
+  unfolding start
+  start-is =
+      let u = walkIn w n in
+      let z : slotAt n + getD w (slotAt n) 0 ≡ slotAt n + 1 + (length u - 1) = omega (arith, T .stands .count, arcs-some) in
+      let a : getD w (slotAt n + getD w (slotAt n) 0) 0 ≡ last 0 u = rw z (T .stands .arcs (length u - 1) (omega (arith, arcs-some)) ∙ last-at u 0 arcs-some) in
+      ap (arcFrom t) a ∙ sym (leaves-is t (last 0 u) (rw (arcs-is t) at (last-arc s u (dataPin s (c .test)) (is-path .1))))
 
-  -- and there is room for its walk
-  pub walk-room : Room w end walkPlace
-  walk-room = record { behind = omega arith; inside = omega (arith, data-in, accepted t fine .header .few-pins, S .prepared .clocked .ready .room) }
+  -- which is a pin
+  start-in : start s p < pinCount t
+  unfolding start
+  start-in = rw (pins-is t) at (ok .from-in (last 0 (walkIn w n)) (last-arc s (walkIn w n) (dataPin s (c .test)) (is-path .1)))
 
-  module _ (v : List ℕ) (n : ℕ) (W : Walked w end (c .serial) walkPlace v n) where
-    -- the walk at its rank is that of the path
-    ranked-is : getD (rankedWalks s (weighing t mode) (testSeed t mode (c .test)) end) (c .serial) [] ≡ p .walk
-    unfolding pathOf bestWalks weighing
-    ranked-is =
-        let L = testWalks (modeOf mode) level s (times t) (c .test) in
-        let l : c .serial < mostK = omega (arith, best, length-take mostK L) in
-        rw (← same-data) (sym (getD-take mostK L (c .serial) [] l))
+  -- so its credit can be asked for
+  pub asks : Asks t w (testClock t (c .test)) (start s p)
+  asks = record { clocked = C; clock = test-clock t fine (c .test) test-in; inside = start-in }
 
-    abbrev told : (n ≡ length (p .walk)) × (take n (drop walkPlace v) ≡ p .walk)
-    told =
-        let q : end < pins s = rw (pins-is t) data-in in
-        rw ranked-is at (W .walk s (weighing t mode) (testSeed t mode (c .test)) (S .laid) q)
-
-    -- as many arcs as the path has
-    pub traced-count : n ≡ length (p .walk)
-    traced-count = told .0
-
-    -- and they are the path's
-    pub traced-is : take n (drop walkPlace v) ≡ p .walk
-    traced-is = told .1
-
-    -- place by place
-    pub traced-at : (j : ℕ) → j < n → getD v (walkPlace + j) 0 ≡ getD (p .walk) j 0
-    traced-at j l = sym (getD-drop walkPlace v j 0) ∙ sym (getD-take n (drop walkPlace v) j 0 l) ∙ ap (λ (a : List ℕ). getD a j 0) traced-is
-
-    -- the test still stands
-    pub still-standing : length v ≡ length w → Standing t mode (c .test) v
-    still-standing long = standing-kept t mode (c .test) w v long (W .front) S
-
-    -- the last arc read backwards leaves the start
-    pub start-is : arcFrom t (getD v (walkPlace + (n - 1)) 0) ≡ start s p
-    unfolding start
-    start-is =
-        let e = traced-count in
-        let a : getD v (walkPlace + (n - 1)) 0 ≡ last 0 (p .walk) =
-        traced-at (n - 1) (omega (arith, arcs-some)) ∙ ap (λ (m : ℕ). getD (p .walk) (m - 1) 0) e ∙ last-at (p .walk) 0 arcs-some in
-        ap (arcFrom t) a ∙ sym (leaves-is t (last 0 (p .walk)) (rw (arcs-is t) at (last-arc s (p .walk) (dataPin s (c .test)) is-walk)))
-
-    -- which is a pin
-    pub start-in : start s p < pinCount t
-    unfolding start
-    start-in = rw (pins-is t) at (ok .from-in (last 0 (p .walk)) (last-arc s (p .walk) (dataPin s (c .test)) is-walk))
-
-    -- the credit of the path
-    pub credit-is : (m : ℕ) → Credited t (testClock t (c .test)) (start s p) m → m ≡ pathCredit (modeOf mode) s (times t) p
-    unfolding creditFrom pathCredit pathOf
-    credit-is m k = k .is (modeOf mode) ∙ rw (← (clock-is t (c .test) (S .test)))
+  module _ (m : ℕ) (k : Credited t (testClock t (c .test)) (start s p) m) where
+    -- and is that of the path
+    credit-is : m ≡ pathCredit forSetup s (times t) p
+    unfolding creditFrom pathCredit
+    credit-is = k .is forSetup ∙ rw (← (clock-is t (c .test) test-in))
 
     -- which fits a signed number
-    pub credit-fits : (m : ℕ) → Credited t (testClock t (c .test)) (start s p) m → m < signed
-    credit-fits m k =
-        omega (arith, k .is (modeOf mode), credit-most t fine (modeOf mode) (testClock t (c .test)) (start s p) (test-clock t fine (c .test) (S .test)) start-in)
+    credit-fits : m < signed
+    credit-fits = omega (arith, k .is forSetup, credit-most t fine forSetup (testClock t (c .test)) (start s p) (test-clock t fine (c .test) test-in) start-in)
 
-    -- the row of the path
-    pub row-is : rowOf (pinCount t) (c .slack) (pathCredit (modeOf mode) s (times t) p) (c .test) (start s p) (p .walk) ≡ rowIn t mode c
-    unfolding row arcPlaces pathOf
-    row-is =
-        let e = in-candidates (modeOf mode) level s (times t) (c .test) c i .2 in
-        rw (pins-is t) (ap (λ (x : ℤ). rowOf (pinCount t) x (pathCredit (modeOf mode) s (times t) p) (c .test) (start s p) (p .walk)) e)
-
-    module _ (long : length v ≡ length w) (m : ℕ) (k : Credited t (testClock t (c .test)) (start s p) m) (places : ℕ) (room : places ≡ rowLength (pinCount t)) where
+    module _ (places : ℕ) (room : places ≡ rowLength (pinCount t)) where
       -- what is written fits, and there is room for it
-      pub puts : Puts v walkPlace m (c .test) (start s p) n places
+      pub puts : Puts w (slotAt n + 1) m (c .test) (start s p) (getD w (slotAt n) 0) places
       puts =
-          let e = traced-count in
-          let f = arcs-few in
           let h = accepted t fine .header in
+          let e = T .stands .count in
           record {
             fits = record {
-              credit-fits = credit-fits m k;
-              test-fits = omega (arith, S .test, h .few-tests);
+              credit-fits = credit-fits;
+              test-fits = omega (arith, test-in, h .few-tests);
               start-fits = omega (arith, start-in, h .few-pins);
-              arcs-fit = omega (arith, h .few-pins);
+              arcs-fit = omega (arith, T .stands .few);
             };
-            room = omega arith;
+            room = omega (arith, arcs-few);
             walk = record {
-              inside = omega (arith, h .few-pins, S .prepared .clocked .ready .room);
-              small = λ j l. rw (traced-at j l) (omega (arith, arcs-low j (omega arith)));
+              inside = omega (arith, slot-in);
+              small = λ j l. rw (T .stands .arcs j (omega arith)) (omega (arith, arcs-low j (omega arith)));
             };
           }
 
-      -- and what is written is the row of the candidate
-      pub out-is : rowOf (places - 5) (c .slack) m (c .test) (start s p) (take n (drop walkPlace v)) ≡ rowIn t mode c
-      out-is =
-          let e : places - 5 ≡ pinCount t = omega arith in
-          ap₂ (λ (q : ℕ) (l : List ℕ). rowOf q (c .slack) m (c .test) (start s p) l) e traced-is
-          ∙ ap (λ (q : ℕ). rowOf (pinCount t) (c .slack) q (c .test) (start s p) (p .walk)) (credit-is m k)
-          ∙ row-is
+      -- and what is written is the row
+      pub out-is : rowOf (places - headLength) (c .slack) m (c .test) (start s p) (take (getD w (slotAt n) 0) (drop (slotAt n + 1) w)) ≡ rowIn t w c n
+      unfolding rowIn walkIn
+      out-is = let e : places - headLength ≡ pinCount t = omega arith in rw (e, credit-is)

@@ -1,44 +1,34 @@
--- The rows of several candidates, one behind another at the front of a room.
+-- The rows of several records, one behind another at the front of a room.
 -- Assumes nothing.
 use mathlib.Core.Path.{_≡_, sym, ap, ap₂, _∙_}
 use mathlib.Core.List.{List, [], _∷_, _++_, append-nil, append-assoc}
 use Prim.Native.Nat.{ℕ, _+_, _*_, _≤_, _<_}
-use native.Mathlib.Numerals.{add-one}
 use native.Mathlib.Omega.{arith}
 use borrow.Rule.Slice.PartMut.{putMid}
 use lib.ListN.{length, getD, take, drop, length-append}
-use lib.Seq.{take-suc, take-at, drop-at, drop-drop, length-take-le, getD-take}
+use lib.Seq.{take-at, drop-at, drop-drop}
 use lib.IntN.{ℤ}
-use Rattle.lists.specs.Parts.{each, gather, written}
-use Rattle.lists.specs.Laws.Member.{In}
-use Rattle.lists.specs.Laws.Pieces.{in-place}
-use Rattle.lists.specs.Laws.Join.{each-join, gather-join}
+use Rattle.lists.specs.Parts.{below, each, gather, written}
+use Rattle.lists.specs.Laws.Join.{each-more, gather-join}
 use Rattle.lists.specs.Laws.Write.{Wrote}
 use Rattle.timing.specs.Limits.{mostK}
-use Rattle.timing.specs.Table.{Table, pinCount, testCount}
-use Rattle.timing.specs.Structure.{structure, times}
-use Rattle.timing.specs.Rows.{modeOf, rowLength}
+use Rattle.timing.specs.Table.{Table, pinCount}
+use Rattle.timing.specs.Rows.{rowLength}
 use Rattle.timing.specs.declared.Candidate.{Candidate}
-use Rattle.worst.specs.Candidates.{candidatesOf}
-use Rattle.winners.specs.Standing.{level, Prepared}
-use Rattle.report.specs.Rowed.{rowIn}
+use Rattle.clocks.specs.Clocked.{Clocked}
+use Rattle.winners.specs.Held.{nobody}
+use Rattle.report.specs.Rowed.{rowIn, Tells}
 
--- a record that is a candidate of one of the tests
-pub record Real (t : Table) (mode : ℕ) (c : Candidate) : Type 0 where
-  pub test : c .test < testCount t
-  pub candidate : In c (candidatesOf (modeOf mode) level (structure t) (times t) (c .test))
-
--- the first n of a list are candidates, and a room has places for their rows
-pub record Writes (t : Table) (mode : ℕ) (w : List ℕ) (list : List Candidate) (n places : ℕ) : Type 0 where
-  pub prepared : Prepared t mode w
-  pub whole : length list ≡ mostK
+-- the first n records of a list and their slots tell paths of the table, and a room has places for their rows
+pub record Writes (t : Table) (w : List ℕ) (list : List Candidate) (slots : List ℕ) (n places : ℕ) : Type 0 where
+  pub clocked : Clocked t w
   pub few : n ≤ mostK
-  pub real : (c : Candidate) → In c (take n list) → Real t mode c
+  pub tells : (i : ℕ) → i < n → Tells t w (getD list i nobody) (getD slots i 0)
   pub room : n * rowLength (pinCount t) ≤ places
 
--- the rows of some candidates, one behind another
-unfoldable pub rowsIn : Table → ℕ → List Candidate → List ℤ
-rowsIn t mode cs = gather (λ (r : List ℤ). r) (each (rowIn t mode) cs)
+-- their rows
+unfoldable pub rowsIn : Table → List ℕ → List Candidate → List ℕ → ℕ → List (List ℤ)
+rowsIn t w list slots n = each (λ (i : ℕ). rowIn t w (getD list i nobody) (getD slots i 0)) (below n)
 
 -- ---- laws
 
@@ -59,21 +49,12 @@ module _ {A : Type 0} where
   unfolding written
   wrote-all p t t₀ w s = s .is ∙ ap (λ (n : ℕ). p ++ drop n t₀) (s .so-long)
 
--- each of the first n
-pub real-at : (t : Table) (mode : ℕ) (w : List ℕ) (list : List Candidate) (n places i : ℕ) (d : Candidate) → Writes t mode w list n places → i < n → Real t mode (getD list i d)
-real-at t mode w list n places i d h l =
-    let e : length (take n list) ≡ n = length-take-le n list (omega (arith, h .whole, h .few)) in
-    rw (getD-take n list i d l) at (h .real (getD (take n list) i d) (in-place d (take n list) i (rw e l)))
-
 -- one row more
-pub rows-more : (t : Table) (mode : ℕ) (list : List Candidate) (i : ℕ) (d : Candidate) → i < length list
-    → rowsIn t mode (take (i + 1) list) ≡ rowsIn t mode (take i list) ++ rowIn t mode (getD list i d)
-unfolding rowsIn each gather
-rows-more t mode list i d h =
-    let c = getD list i d in
+pub rows-more : (t : Table) (w : List ℕ) (list : List Candidate) (slots : List ℕ) (i : ℕ)
+    → gather (λ (r : List ℤ). r) (rowsIn t w list slots (i + 1)) ≡ gather (λ (r : List ℤ). r) (rowsIn t w list slots i) ++ rowIn t w (getD list i nobody) (getD slots i 0)
+unfolding rowsIn gather
+rows-more t w list slots i =
+    let f : ℕ → List ℤ = λ q. rowIn t w (getD list q nobody) (getD slots q 0) in
     let id : List ℤ → List ℤ = λ r. r in
-    ap (λ (n : ℕ). gather id (each (rowIn t mode) (take n list))) (add-one i)
-    ∙ ap (λ (l : List Candidate). gather id (each (rowIn t mode) l)) (take-suc list i d h)
-    ∙ ap (gather id) (each-join (rowIn t mode) (take i list) (c ∷ []))
-    ∙ gather-join id (each (rowIn t mode) (take i list)) (rowIn t mode c ∷ [])
-    ∙ ap (λ (r : List ℤ). gather id (each (rowIn t mode) (take i list)) ++ r) (append-nil (rowIn t mode c))
+    ap (gather id) (each-more f i) ∙ gather-join id (each f (below i)) (f i ∷ [])
+    ∙ ap (λ (r : List ℤ). gather id (each f (below i)) ++ r) (append-nil (f i))

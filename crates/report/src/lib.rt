@@ -5,23 +5,22 @@ use timing::Checked;
 use timing::Design;
 use timing::Refusal;
 ghost use mathlib.Core.Path.{_≡_};
-ghost use Prim.Native.Nat.{ℕ, _+_, _-_, _≤_, _<_, min};
+ghost use mathlib.Core.List.{List};
+ghost use Prim.Native.Nat.{ℕ, _-_, _≤_, _<_};
 ghost use lib.ListN.{length, getD, set, take, drop, replicate};
-ghost use lib.IntN.{pos};
-ghost use Rattle.lists.specs.Parts.{written};
+ghost use lib.IntN.{ℤ, pos};
+ghost use Rattle.lists.specs.Parts.{gather, written};
 ghost use Rattle.timing.specs.Limits.{mostPins, mostK, workLength};
-ghost use Rattle.timing.specs.Table.{testCount, arcFrom};
 ghost use Rattle.timing.specs.Refusals.{checkedOf};
 ghost use Rattle.timing.specs.Asked.{askingBad, roomBad, askingFault};
 ghost use Rattle.timing.specs.Contracts.{AskAllows};
-ghost use Rattle.winners.specs.Standing.{Prepared, Standing};
-ghost use Rattle.report.specs.Rowed.{walkPlace, rowIn, Rowed};
+ghost use Rattle.report.specs.Rowed.{rowIn, Rowed};
 ghost use Rattle.report.specs.Writing.{Writes, rowsIn};
 ghost use Rattle.report.specs.Answered.{Granted, Answers};
-ghost use Rattle.report.specs.Row.{signed, headOf, arcPlaces, rowOf, Fits, Backwards, Puts};
+ghost use Rattle.report.specs.Row.{signed, headLength, headOf, arcPlaces, rowOf, Fits, Backwards, Puts};
 
-// Where a walk is written in the work area: behind what the clock side keeps.
-const WALK: usize = area::TURNS;
+// How many numbers a row has before its arcs.
+const HEAD: usize = 5;
 
 // The k worst paths of a table in a mode (0 setup, 1 hold), as rows at the front of the room: rows given and total, or the refusal, with which nothing is written.
 // After an answer the work area is zero over the length that is named for it. Places beyond stay, in both.
@@ -44,24 +43,18 @@ fn given(table: &[u32], mode: u32, k: usize, room: &mut [i64], work: &mut [u64])
     requires { ⌜ Granted (now table) k (length (now room)) (length (now work)) × (length (now work) ≡ workLength) ⌝ }
     ensures { λ r. ⌜ Answers (now (table .entry)) mode k (now (room .entry)) (now (room .exit)) (now (work .exit)) r ⌝ }
 {
-    winners::prepare(table, mode, work);
-    let total = winners::total(table, mode, work);
-    let won = winners::all_winners(table, mode, work);
-    let n = fewer(k, won.count);
+    laying::prepare(table, mode, work);
+    let total = laying::total(table, mode, work);
+    let won = winners::first(table, mode, work, k);
+    let n = won.count;
     let list = won.list;
-    rows(table, mode, work, list, n, room);
+    let slots = won.slots;
+    rows(table, work, list, slots, n, room);
     clear(work);
     Answer::Given {
         rows: n,
         total: total,
     }
-}
-
-// The smaller of two numbers.
-fn fewer(a: usize, b: usize) -> usize
-    ensures { λ r. ⌜ r ≡ min a b ⌝ }
-{
-    if a < b { a } else { b }
 }
 
 // Zero over the length that is named for the work area; places beyond stay.
@@ -90,7 +83,7 @@ fn room_bad(pins: usize, k: usize, room: usize, work: usize) -> bool
     requires { ⌜ (pins ≤ mostPins) × (k ≤ mostK) ⌝ }
     ensures { λ r. ⌜ r ≡ roomBad pins k room work ⌝ }
 {
-    (room < k * (pins + 5)) | (work < Design::WORK)
+    (room < k * (pins + HEAD)) | (work < Design::WORK)
 }
 
 // Fine, or the refusal of an asking: those of its table, then 14, then 15. Of the room and the work area the lengths are given.
@@ -114,54 +107,41 @@ fn asking_fine(table: &[u32], mode: u32, k: usize, room: usize, work: usize) -> 
 
 // ---- the rows
 
-// The rows of test j are laid, unless they stand already.
-fn stand(table: &[u32], mode: u32, work: &mut [u64], j: usize, standing: usize)
-    requires { ⌜ Prepared (now table) mode (now work) × (j < testCount (now table)) × (standing ≡ j → Standing (now table) mode j (now work)) ⌝ }
-    ensures { λ _. ⌜ Standing (now (table .entry)) mode j (now (work .exit)) ⌝ }
-{
-    if standing != j {
-        winners::lay(table, mode, work, j);
-    }
-}
-
-// The rows of the first n of a list of candidates, one behind another at the front of the room. For each its test is laid again, unless it stands.
+// A row for each of the first n records of a list, one behind another at the front of the room. The walk of each stands in its slot of the work area.
 fn rows(
     table: &[u32],
-    mode: u32,
-    work: &mut [u64],
+    work: &[u64],
     list: [Candidate; Design::K],
+    slots: [u8; Design::K],
     n: usize,
     room: &mut [i64],
 )
-    requires { ⌜ Writes (now table) mode (now work) list n (length (now room)) ⌝ }
-    ensures { λ _. ⌜ now (room .exit) ≡ written (rowsIn (now (table .entry)) mode (take n list)) (now (room .entry)) ⌝ }
+    requires { ⌜ Writes (now table) (now work) list slots n (length (now room)) ⌝ }
+    ensures { λ _. ⌜ now (room .exit) ≡ written (gather (λ (r : List ℤ). r) (rowsIn (now (table .entry)) (now (work .entry)) list slots n)) (now (room .entry)) ⌝ }
 {
-    let size = tables::pin_count(table) + 5;
-    let mut standing = Design::TESTS;
-    let mut i = 0;
+    let size = tables::pin_count(table) + HEAD;
+    let mut place = 0;
     let mut at = 0;
-    while i < n {
-        let c = list[i];
-        let j = count(c.test);
-        stand(table, mode, work, j, standing);
-        standing = j;
+    while place < n {
+        let c = list[place];
+        let slot = slots[place] as usize;
         let end = at + size;
-        row_of(table, mode, work, c, &mut room[at..end]);
+        row_of(table, work, c, slot, &mut room[at..end]);
         at = end;
-        i += 1;
+        place += 1;
     }
 }
 
-// The row of a candidate of the test that stands: its walk is traced into the work area, and its credit worked out again.
-fn row_of(table: &[u32], mode: u32, work: &mut [u64], c: Candidate, row: &mut [i64])
-    requires { ⌜ Rowed (now table) mode (now work) c (length (now row)) ⌝ }
-    ensures { λ _. ⌜ (now (row .exit) ≡ rowIn (now (table .entry)) mode c) × Standing (now (table .entry)) mode (c .test) (now (work .exit)) ⌝ }
+// The row of a record whose walk stands in a slot of the work area. The start is the pin that the walk's last arc leaves; start and clock pin give the credit.
+fn row_of(table: &[u32], work: &[u64], c: Candidate, slot: usize, row: &mut [i64])
+    requires { ⌜ Rowed (now table) (now work) c slot (length (now row)) ⌝ }
+    ensures { λ _. ⌜ now (row .exit) ≡ rowIn (now (table .entry)) (now (work .entry)) c slot ⌝ }
 {
-    let j = count(c.test);
-    let end = tables::of_test(table, 1, j);
-    let n = arcs::trace(work, end, count(c.serial), WALK);
-    let start = start_of(table, work, n);
-    let credit = clocks::credit_from(table, work, tables::of_test(table, 0, j), start);
+    let base = slot * area::SLOT;
+    let n = count(work[base]);
+    let start = tables::of_arc(table, 0, count(work[base + n]));
+    let clock = tables::of_test(table, 0, count(c.test));
+    let credit = clocks::credit_from(table, work, clock, start);
     let head = Head {
         slack: c.slack,
         credit: credit,
@@ -169,20 +149,12 @@ fn row_of(table: &[u32], mode: u32, work: &mut [u64], c: Candidate, row: &mut [i
         start: wide(start),
         arcs: wide(n),
     };
-    put_row(work, WALK, head, row);
-}
-
-// The pin at which the walk of n arcs in the work area starts: the one that its last arc leaves.
-fn start_of(table: &[u32], work: &[u64], n: usize) -> usize
-    requires { ⌜ (1 ≤ n) × (walkPlace + n ≤ length (now work)) ⌝ }
-    ensures { λ r. ⌜ r ≡ arcFrom (now (table .entry)) (getD (now (work .entry)) (walkPlace + (n - 1)) 0) ⌝ }
-{
-    tables::of_arc(table, 0, count(work[WALK + (n - 1)]))
+    put_row(work, base + 1, head, row);
 }
 
 // ---- one row
 
-// The first five numbers of a row.
+// The numbers of a row before its arcs.
 struct Head {
     slack: i64,
     credit: u64,
@@ -195,13 +167,13 @@ struct Head {
 // area.
 fn put_row(work: &[u64], at: usize, h: Head, row: &mut [i64])
     requires { ⌜ Puts (now work) at (h .credit) (h .test) (h .start) (h .arcs) (length (now row)) ⌝ }
-    ensures { λ _. ⌜ now (row .exit) ≡ rowOf (length (now (row .entry)) - 5) (h .slack) (h .credit) (h .test) (h .start) (take (h .arcs) (drop at (now (work .entry)))) ⌝ }
+    ensures { λ _. ⌜ now (row .exit) ≡ rowOf (length (now (row .entry)) - headLength) (h .slack) (h .credit) (h .test) (h .start) (take (h .arcs) (drop at (now (work .entry)))) ⌝ }
 {
     let n = count(h.arcs);
     put_head(row, h);
-    let mut i = 5;
+    let mut i = HEAD;
     while i < row.len() {
-        let x = arc_at(work, at, n, i - 5);
+        let x = arc_at(work, at, n, i - HEAD);
         row[i] = x;
         i += 1;
     }
@@ -209,7 +181,7 @@ fn put_row(work: &[u64], at: usize, h: Head, row: &mut [i64])
 
 // Slack, credit, test, start pin and arc count go to the front of the row.
 fn put_head(row: &mut [i64], h: Head)
-    requires { ⌜ (5 ≤ length (now row)) × Fits (h .credit) (h .test) (h .start) (h .arcs) ⌝ }
+    requires { ⌜ (headLength ≤ length (now row)) × Fits (h .credit) (h .test) (h .start) (h .arcs) ⌝ }
     ensures { λ _. ⌜ now (row .exit) ≡ written (headOf (h .slack) (h .credit) (h .test) (h .start) (h .arcs)) (now (row .entry)) ⌝ }
 {
     put(row, 0, h.slack);

@@ -499,7 +499,8 @@ pub fn first(table: &[u32], mode: u32, work: &mut [u64], k: usize) -> Best
     requires { ⌜ Prepared (now table) mode (now work) × (0 < k) × (k ≤ mostK) ⌝ }
     ensures { λ r. ⌜ Won (now (table .entry)) mode k (now (work .exit)) (r .list) (r .count) (r .slots) ⌝ }
 {
-    let bounds = laying::bounds_of(table, mode, work);
-    let hints = with_ties(ABOVE, k);
+    let mut bounds = laying::bounds_of(table, mode, work);
+    let kth = hints::hint(table, mode, work, k, &mut bounds);
+    let hints = with_ties(kth.slack, kth.last);
     by_rounds(table, mode, work, k, hints, &bounds)
 }

@@ -48,7 +48,7 @@ given-requires c κs =
     let g = allowed (c .before .before) in
     let s = c .before .before .before .before .before .before .before in
     let e : length (take workLength (s .args .work .now)) ≡ workLength = length-take-le workLength (s .args .work .now) (g .area) in
-    (record { checked = g .checked; few = g .few; places = g .places; area = omega arith }, e)
+    (record { checked = g .checked; some = g .some; few = g .few; places = g .places; area = omega arith }, e)
 
 returns : tie.Need-returns
 returns c =
