@@ -4,11 +4,12 @@ use mathlib.Core.Path.{_≡_, refl, sym, ap, _∙_}
 use mathlib.Core.Bool.{Bool, true, false, not, _&&_, _||_}
 use mathlib.Core.List.{List, [], _∷_}
 use native.Mathlib.Nat.{add-zero, not-suc-le-zero}
+use native.Mathlib.Decide.{decLe}
 use native.Mathlib.Omega.{arith}
 use native.Mathlib.Numerals.{add-one}
 use lib.Dec.{eqb, leb}
 use lib.ListN.{length, getD, drop, drop-of-length-le}
-use borrow.Author.Tests.{eq-eqb, ne-eqb, leb-true}
+use borrow.Author.Tests.{eq-eqb, ne-eqb, leb-true, le-leb, lt-leb}
 use Rattle.lists.specs.Choice.{pick}
 use Rattle.lists.specs.Parts.{every, same}
 use Rattle.lists.specs.Laws.Cut.{one-on}
@@ -158,3 +159,13 @@ number-small l i = by-form (wellFormed (fieldOf l i)) refl
         let s = so-first (fieldOf l i) e in
         omega (arith, value-low (fieldOf l i) 0 0 (s .digits) (s .low), tens-most (0 + length (fieldOf l i)) (omega (arith, s .seven)))
     by-form false e = omega arith
+
+-- what `digit_at` answers: no digit over 9, else the digit
+pub no-digit : (b r : ℕ) → 9 < r → (48 ≤ b → b ≡ r + 48) → digit b ≡ false
+no-digit b r h d = elim (decLe 48 b) [
+  | yes k ↦ rw (lt-leb b 57 (omega (arith, d k)), le-leb 48 b k) refl
+  | no k ↦ rw (lt-leb 48 b (omega arith)) refl
+]
+
+pub a-digit : (b r : ℕ) → r ≤ 9 → (r ≤ 9 → b ≡ r + 48) → digit b ≡ true
+a-digit b r h d = rw (le-leb 48 b (omega (arith, d h)), le-leb b 57 (omega (arith, d h))) refl

@@ -2,5 +2,6 @@
 mod Bytes
 mod Lines
 mod Fields
+mod Scan
 mod Writing
 mod Grounds

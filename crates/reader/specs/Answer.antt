@@ -1,18 +1,18 @@
 -- What the reader's own functions answer, and the numbers that they write.
 -- Assumes nothing.
-use Prim.Native.Nat.{ℕ, zero, suc, _+_}
+use Prim.Native.Nat.{ℕ, _+_}
 use mathlib.Core.Path.{_≡_, sym, _∙_}
-use mathlib.Core.List.{List, [], _∷_, _++_}
+use mathlib.Core.List.{List, _∷_, _++_}
 use mathlib.Core.Option.{Option, none, some}
 use lib.Dec.{ltb}
-use lib.ListN.{length, getD, drop}
+use lib.ListN.{length}
 use Rattle.lists.specs.Choice.{Ground, ground, firstMet}
 use Rattle.lists.specs.Parts.{below, gather}
 use Rattle.timing.specs.declared.Refusal.{Refusal}
 use Rattle.timing.specs.declared.Refusal.the-variants.{TextLong}
 use Rattle.timing.specs.declared.Reading.{Reading}
 use Rattle.timing.specs.Limits.{mostText}
-use Rattle.timing.specs.Field.{Bytes, numberOr0}
+use Rattle.timing.specs.Field.{Bytes}
 use Rattle.timing.specs.Line.{designLine, fourOf}
 use Rattle.timing.specs.Text.{lineOf, pinsOf, arcsOf, testsOf, linesDue, askNumber, dueLine, lineGrounds, dueGrounds, askGrounds, dueOf, modeAt, kAt, reading, roomFilled}
 use Rattle.reader.specs.declared.Passed.{Passed}
@@ -21,11 +21,6 @@ use Rattle.reader.specs.declared.Asked.{Asked}
 use Rattle.reader.specs.declared.Asked.the-variants.{Of, Refused as AskedRefused}
 use Rattle.reader.specs.declared.Surveyed.{Surveyed}
 use Rattle.reader.specs.declared.Surveyed.the-variants.{Fine, Refused as SurveyedRefused}
-
--- the numbers of the first n of several fields
-unfoldable pub numbersOf : List Bytes → ℕ → List ℕ
-numbersOf fs zero = []
-numbersOf fs (suc n) = numberOr0 (getD fs 0 []) ∷ numbersOf (drop 1 fs) n
 
 -- the grounds of the line due at i, in a design of p pins and a arcs
 unfoldable pub dueAt : Bytes → ℕ → ℕ → ℕ → List (Ground Refusal)

@@ -1,4 +1,4 @@
--- `split` by places: where a part begins, where it ends, and the parts behind it. All are total: beyond the last part stands the end.
+-- `split` by places: where a part begins and where it ends. All are total: beyond the last part stands the end.
 -- Assumes nothing.
 use Prim.Native.Nat.{ℕ, zero, suc, _+_, _-_, _≤_, _<_}
 use mathlib.Core.Path.{_≡_, refl, sym, ap, _∙_}
@@ -9,11 +9,11 @@ use native.Mathlib.Numerals.{sub-one}
 use native.Mathlib.Omega.{arith}
 use lib.Dec.{eqb, ltb}
 use lib.ListN.{length, getD, take, drop, length-drop, drop-of-length-le}
-use lib.Seq.{getD-drop, drop-drop}
+use lib.Seq.{getD-drop}
 use borrow.Author.Tests.{eq-eqb, ne-eqb, eqb-true, eqb-false, lt-ltb, le-ltb, ltb-true, ltb-false}
 use Rattle.lists.specs.Choice.{pick}
 use Rattle.lists.specs.Parts.{split, onto}
-use Rattle.lists.specs.Laws.Cut.{reach, reach-most, endAt, split-miss, split-hit, split-some, one-on}
+use Rattle.lists.specs.Laws.Cut.{reach, endAt, split-some, one-on}
 
 -- where part m begins, counted from 0; the end where there are fewer
 unfoldable pub startOf : ℕ → List ℕ → ℕ → ℕ
@@ -28,10 +28,6 @@ over x e = pick (ltb e (length x)) (e + 1) e
 -- where the part behind the one that begins at a begins
 abbrev pub nextAt : ℕ → List ℕ → ℕ → ℕ
 nextAt b x a = over x (endAt b x a)
-
--- the parts behind the one that ends at e
-unfoldable pub partsBehind : ℕ → List ℕ → ℕ → List (List ℕ)
-partsBehind b x e = pick (ltb e (length x)) (split b (drop (e + 1) x)) []
 
 -- ---- where a part ends
 
@@ -64,43 +60,6 @@ pub miss-at : (b : ℕ) (x : List ℕ) (a j : ℕ) → a ≤ j → j < endAt b x
 miss-at b x a j h k e =
     let i : a + (j - a) ≡ j = omega arith in
     reach-miss b (drop a x) (j - a) (omega arith) (getD-drop a x (j - a) 0 ∙ ap (λ (n : ℕ). getD x n 0) i ∙ e)
-
--- ---- the parts
-
-take-all : (l : List ℕ) (n : ℕ) → n ≡ length l → take n l ≡ l
-take-all l n e = rw e (all l)
-  where
-    all : (l : List ℕ) → take (length l) l ≡ l
-    all [] = refl
-    all (x ∷ l) = ap (λ (z : List ℕ). x ∷ z) (all l)
-
--- the part at a, and those behind it
-pub cut : (b : ℕ) (x : List ℕ) (a e : ℕ) → a ≤ length x → e ≡ endAt b x a → split b (drop a x) ≡ take (e - a) (drop a x) ∷ partsBehind b x e
-unfolding partsBehind pick
-cut b x a e h g = by-end (ltb e (length x)) refl
-  where
-    here : e - a ≡ reach b (drop a x)
-    here = omega arith
-
-    by-end : (c : Bool) → ltb e (length x) ≡ c → split b (drop a x) ≡ take (e - a) (drop a x) ∷ pick c (split b (drop (e + 1) x)) []
-    by-end true q =
-        let k : a + suc (reach b (drop a x)) ≡ e + 1 = omega arith in
-        split-hit b (drop a x) (omega (arith, ltb-true e (length x) q, length-drop a x))
-        ∙ rw here (ap (λ (l : List ℕ). take (reach b (drop a x)) (drop a x) ∷ split b l) (drop-drop (suc (reach b (drop a x))) a x ∙ ap (λ (j : ℕ). drop j x) k))
-    by-end false q =
-        let k : reach b (drop a x) ≡ length (drop a x) = omega (arith, ltb-false e (length x) q, length-drop a x, reach-most b (drop a x)) in
-        split-miss b (drop a x) k ∙ rw here (ap (λ (l : List ℕ). l ∷ []) (sym (take-all (drop a x) (reach b (drop a x)) k)))
-
-pub cut-first : (b : ℕ) (x : List ℕ) (e : ℕ) → e ≡ endAt b x 0 → split b x ≡ take (e - 0) (drop 0 x) ∷ partsBehind b x e
-cut-first b x e g = cut b x 0 e (omega arith) g
-
-pub behind-more : (b : ℕ) (x : List ℕ) (e d : ℕ) → e < length x → d ≡ endAt b x (e + 1) → partsBehind b x e ≡ take (d - (e + 1)) (drop (e + 1) x) ∷ partsBehind b x d
-unfolding partsBehind pick
-behind-more b x e d h g = rw (lt-ltb e (length x) h) (cut b x (e + 1) d (omega arith) g)
-
-pub behind-none : (b : ℕ) (x : List ℕ) (e : ℕ) → length x ≤ e → partsBehind b x e ≡ []
-unfolding partsBehind pick
-behind-none b x e h = rw (le-ltb e (length x) h) refl
 
 -- ---- where a part begins
 
@@ -180,7 +139,7 @@ part-is b x m a e h g =
     let k : e - a ≡ reach b (drop a x) = omega arith in
     part-of b x m ∙ rw (k, h) refl
 
-onto-long : (y : ℕ) (p : List (List ℕ)) → 1 ≤ length p → length (onto y p) ≡ length p
+pub onto-long : (y : ℕ) (p : List (List ℕ)) → 1 ≤ length p → length (onto y p) ≡ length p
 unfolding onto
 onto-long y [] h = absurd (omega (arith, h))
 onto-long y (q ∷ p) h = refl

@@ -2,19 +2,21 @@
 ghost use mathlib.Core.Path.{_≡_};
 ghost use mathlib.Core.Bool.{true};
 ghost use Prim.Native.Nat.{_+_, _-_, _*_, _<_, _≤_};
-ghost use lib.ListN.{length};
+ghost use lib.ListN.{length, getD};
 ghost use Rattle.lists.specs.Choice.{firstMet};
-ghost use Rattle.lists.specs.Parts.{below, every, gather, same};
+ghost use Rattle.lists.specs.Parts.{below, gather, same};
 ghost use Rattle.timing.specs.Kinds.{hasTimes};
 ghost use Rattle.timing.specs.Refusals.{checkedOf};
 ghost use Rattle.timing.specs.Field.{digit, isMode, modeIn, wellFormed, value, numberOr0, kindOf, letter};
-ghost use Rattle.timing.specs.Line.{fieldOf, fieldCount, numberIn, sizesBad, designLine, pinFields, pinLine, fourLine, askLine, fourOf, pinOf};
+ghost use Rattle.timing.specs.Line.{fieldOf, fieldCount, isNumber, numberIn, sizesBad, designLine, pinLine, fourLine, askLine, fourOf, pinOf};
 ghost use Rattle.timing.specs.Text.{lineOf, lineStart, dueLine, lineGrounds, askGrounds, dueOf};
 ghost use Rattle.timing.specs.Contracts.{ReadAllows};
 ghost use Rattle.lists.specs.Laws.Cut.{endAt};
-ghost use Rattle.reader.specs.Cut.{startOf, over, nextAt, partsBehind};
+ghost use Rattle.lists.specs.Laws.Member.{All};
+ghost use Rattle.reader.specs.Cut.{startOf, nextAt};
 ghost use Rattle.lists.specs.Laws.Write.{sets};
-ghost use Rattle.reader.specs.Answer.{numbersOf, dueAt, passedOf, askedOf, surveyOf, foundOf, tableTo};
+ghost use Rattle.reader.specs.Scan.{lastByte, lineFrom, InField, NumberTo, WordTo, threeOf, allFour, dueIn, PlainTo};
+ghost use Rattle.reader.specs.Answer.{dueAt, passedOf, askedOf, surveyOf, foundOf, tableTo};
 use timing::Checked;
 use timing::Design;
 use timing::Reading;
@@ -28,6 +30,12 @@ const LINE_END: u8 = b'\n';
 
 // No kind has this number.
 const NO_KIND: u32 = 5;
+
+// The most digits that a number has.
+const DIGITS: usize = 7;
+
+// The most that six digits say; a number that says more has seven, and no digit follows it.
+const SIX_DIGITS: u32 = 999999;
 
 // ---- bytes
 
@@ -44,17 +52,6 @@ fn end_of(s: &[u8], b: u8, a: usize) -> usize
         i += 1;
     }
     i
-}
-
-// The place behind a part that ends at e, the byte that ends it passed; the end where there is none.
-fn behind(s: &[u8], e: usize) -> usize
-    requires { ⌜ e ≤ length (now s) ⌝ }
-    ensures { λ r. ⌜ (r ≡ over (now (s .entry)) e) × ((e ≤ r) × (r ≤ length (now (s .entry)))) ⌝ }
-{
-    if e < s.len() {
-        return e + 1;
-    }
-    e
 }
 
 // The place behind the first n bytes b; the end where there are fewer.
@@ -94,25 +91,19 @@ pub fn alike(f: &[u8], word: &[u8]) -> bool
     true
 }
 
-// Whether a byte is one of the digits 0 to 9.
-fn is_digit(b: u8) -> bool
-    ensures { λ r. ⌜ r ≡ digit b ⌝ }
+// The byte as a number.
+fn wide(b: u8) -> u32
+    ensures { λ r. ⌜ r ≡ b ⌝ }
 {
-    (b'0' <= b) & (b <= b'9')
+    b as u32
 }
 
-// Whether every byte of a field is a digit; so of an empty field.
-fn all_digits(f: &[u8]) -> bool
-    ensures { λ r. ⌜ r ≡ every digit (now (f .entry)) ⌝ }
+// The digit at i; over 9 where there is none.
+fn digit_at(s: &[u8], i: usize) -> u32
+    requires { ⌜ i < length (now s) ⌝ }
+    ensures { λ r. ⌜ (r ≤ 9 → getD (now (s .entry)) i 0 ≡ r + 48) × (48 ≤ getD (now (s .entry)) i 0 → getD (now (s .entry)) i 0 ≡ r + 48) ⌝ }
 {
-    let mut i = 0;
-    while i < f.len() {
-        if !is_digit(f[i]) {
-            return false;
-        }
-        i += 1;
-    }
-    true
+    std::num::wrapping_sub_u32(wide(s[i]), wide(b'0'))
 }
 
 // Whether a field is a number: 1 to 7 digits, no leading zero but `0` itself.
@@ -122,42 +113,33 @@ pub fn well_formed(f: &[u8]) -> bool
     if f.len() == 0 {
         return false;
     }
-    if 7 < f.len() {
+    if DIGITS < f.len() {
         return false;
     }
-    let digits = all_digits(f);
-    digits & (!(f[0] == b'0') | (f.len() == 1))
-}
-
-// The byte as a number.
-fn wide(b: u8) -> u32
-    ensures { λ r. ⌜ r ≡ b ⌝ }
-{
-    b as u32
-}
-
-// The number that the digits of a well-formed field say.
-fn value_of(f: &[u8]) -> u32
-    requires { ⌜ wellFormed (now f) ≡ true ⌝ }
-    ensures { λ r. ⌜ r ≡ value (now (f .entry)) ⌝ }
-{
-    let mut v: u32 = 0;
     let mut i = 0;
     while i < f.len() {
-        v = v * 10 + (wide(f[i]) - 48);
+        if 9 < digit_at(f, i) {
+            return false;
+        }
         i += 1;
     }
-    v
+    !(f[0] == b'0') | (f.len() == 1)
 }
 
 // The number that a field says; 0 where it is no number.
 pub fn number(f: &[u8]) -> u32
     ensures { λ r. ⌜ r ≡ numberOr0 (now (f .entry)) ⌝ }
 {
-    if well_formed(f) {
-        return value_of(f);
+    if !well_formed(f) {
+        return 0;
     }
-    0
+    let mut v = 0;
+    let mut i = 0;
+    while i < f.len() {
+        v = v * 10 + digit_at(f, i);
+        i += 1;
+    }
+    v
 }
 
 // The kind that a letter names, 0 to 4 for R, B, K, I, D; 5 for any other byte.
@@ -216,16 +198,6 @@ fn has_times(k: u32) -> bool
     (k == 0) | (k == 3)
 }
 
-// How many fields a pin line of the kind has.
-fn pin_fields(k: u32) -> usize
-    ensures { λ r. ⌜ r ≡ pinFields k ⌝ }
-{
-    if has_times(k) {
-        return 4;
-    }
-    2
-}
-
 // ---- the fields of a line
 
 // Field i of a line, the word being field 0; empty where there is none.
@@ -237,35 +209,26 @@ pub fn field(l: &[u8], i: usize) -> &[u8]
     &l[a..e]
 }
 
-// What stands behind a field: how many fields, and whether each is a number.
-struct Rest {
-    count: usize,
-    numbers: bool,
-}
-
-// The fields behind the one that ends at e.
-fn rest_of(l: &[u8], e: usize) -> Rest
-    requires { ⌜ e ≤ length (now l) ⌝ }
-    ensures { λ r. ⌜ (r .count ≡ length (partsBehind 9 (now (l .entry)) e)) × ((r .numbers ≡ every wellFormed (partsBehind 9 (now (l .entry)) e)) × (r .count ≤ length (now (l .entry)))) ⌝ }
-{
-    let mut at = e;
-    let mut count = 0;
-    let mut numbers = true;
-    while at < l.len() {
-        let a = at + 1;
-        at = end_of(l, TAB, a);
-        numbers = numbers & well_formed(&l[a..at]);
-        count += 1;
-    }
-    Rest { count, numbers }
-}
-
 // How many fields a line has; an empty line has one.
 pub fn field_count(l: &[u8]) -> usize
     ensures { λ r. ⌜ r ≡ fieldCount (now (l .entry)) ⌝ }
 {
-    let behind_first = rest_of(l, end_of(l, TAB, 0));
-    behind_first.count + 1
+    let mut count = 0;
+    let mut i = 0;
+    while i < l.len() {
+        if l[i] == TAB {
+            count += 1;
+        }
+        i += 1;
+    }
+    count + 1
+}
+
+// Whether field i of a line is a number.
+fn is_number(l: &[u8], i: usize) -> bool
+    ensures { λ r. ⌜ r ≡ isNumber (now (l .entry)) i ⌝ }
+{
+    well_formed(field(l, i))
 }
 
 // ---- what is wrong with a line; n is its number
@@ -274,15 +237,14 @@ pub fn field_count(l: &[u8]) -> usize
 fn four_fine(word: &[u8], l: &[u8], n: usize) -> Checked
     ensures { λ r. ⌜ r ≡ checkedOf (firstMet (fourLine (now (word .entry)) (now (l .entry)) n)) ⌝ }
 {
-    let e = end_of(l, TAB, 0);
-    if !alike(&l[0..e], word) {
+    if !alike(field(l, 0), word) {
         return Checked::Refused(Refusal::LineNotDue(n));
     }
-    let t = rest_of(l, e);
-    if t.count != 4 {
+    if field_count(l) != 5 {
         return Checked::Refused(Refusal::FieldCount(n));
     }
-    if !t.numbers {
+    let numbers = is_number(l, 1) & is_number(l, 2) & is_number(l, 3) & is_number(l, 4);
+    if !numbers {
         return Checked::Refused(Refusal::FieldForm(n));
     }
     Checked::Fine
@@ -295,18 +257,11 @@ fn sizes_bad(p: usize, a: usize, t: usize) -> bool
     (p == 0) | (Design::PINS < p) | (Design::ARCS < a) | (Design::TESTS < t)
 }
 
-// The number as a count.
-fn count_of(x: u32) -> usize
-    ensures { λ r. ⌜ r ≡ x ⌝ }
-{
-    x as usize
-}
-
 // The number in field i of a line, 0 where it is none.
 fn number_in(l: &[u8], i: usize) -> usize
     ensures { λ r. ⌜ r ≡ numberIn (now (l .entry)) i ⌝ }
 {
-    count_of(number(field(l, i)))
+    number(field(l, i)) as usize
 }
 
 // The `design` line: the word, four numbers, and the sizes within their limits.
@@ -327,24 +282,28 @@ fn design_fine(l: &[u8], n: usize) -> Checked
 fn pin_fine(l: &[u8], n: usize) -> Checked
     ensures { λ r. ⌜ r ≡ checkedOf (firstMet (pinLine (now (l .entry)) n)) ⌝ }
 {
-    let e = end_of(l, TAB, 0);
-    if !alike(&l[0..e], b"pin") {
+    if !alike(field(l, 0), b"pin") {
         return Checked::Refused(Refusal::LineNotDue(n));
     }
-    if e == l.len() {
+    let count = field_count(l);
+    if count == 1 {
         return Checked::Refused(Refusal::FieldCount(n));
     }
-    let a = e + 1;
-    let f = end_of(l, TAB, a);
-    let k = letter_of(&l[a..f]);
+    let k = letter_of(field(l, 1));
     if k == NO_KIND {
         return Checked::Refused(Refusal::FieldForm(n));
     }
-    let t = rest_of(l, f);
-    if t.count + 2 != pin_fields(k) {
+    if !has_times(k) {
+        if count != 2 {
+            return Checked::Refused(Refusal::FieldCount(n));
+        }
+        return Checked::Fine;
+    }
+    if count != 4 {
         return Checked::Refused(Refusal::FieldCount(n));
     }
-    if has_times(k) & !t.numbers {
+    let times = is_number(l, 2) & is_number(l, 3);
+    if !times {
         return Checked::Refused(Refusal::FieldForm(n));
     }
     Checked::Fine
@@ -360,7 +319,7 @@ fn ask_fine(l: &[u8], n: usize) -> Checked
     if field_count(l) != 3 {
         return Checked::Refused(Refusal::FieldCount(n));
     }
-    if !(is_mode(field(l, 1)) & well_formed(field(l, 2))) {
+    if !(is_mode(field(l, 1)) & is_number(l, 2)) {
         return Checked::Refused(Refusal::FieldForm(n));
     }
     Checked::Fine
@@ -408,7 +367,11 @@ pub fn next_at(text: &[u8], at: usize) -> usize
     if text.len() <= at {
         return at;
     }
-    behind(text, end_of(text, LINE_END, at))
+    let e = end_of(text, LINE_END, at);
+    if e < text.len() {
+        return e + 1;
+    }
+    e
 }
 
 // The reader over a text: the text itself and its place.
@@ -463,6 +426,145 @@ fn line_end(text: &[u8], at: usize, next: usize) -> usize
     next
 }
 
+// ---- plain lines: a line due without a fault, taken by one scan of its bytes; any other goes field by field, which says what is wrong with it
+
+// A number and the place behind the byte that ends it; place 0 where no such number stands.
+struct Taken {
+    next: usize,
+    value: u32,
+}
+
+// The number at a, ended by the byte c, in a text that ends with byte 10. No digit follows a leading zero, nor a seventh digit.
+fn number_at(s: &[u8], a: usize, c: u8) -> Taken
+    requires { ⌜ (a < length (now s)) × (lastByte (now s) ≡ 10) ⌝ }
+    ensures { λ r. ⌜ (0 < r .next → NumberTo c (now (s .entry)) a (r .next) (r .value)) ⌝ }
+{
+    let mut v = digit_at(s, a);
+    if 9 < v {
+        return Taken { next: 0, value: 0 };
+    }
+    let mut i = a + 1;
+    let mut d = digit_at(s, i);
+    while d <= 9 {
+        if (v == 0) | (SIX_DIGITS < v) {
+            return Taken { next: 0, value: 0 };
+        }
+        v = v * 10 + d;
+        i += 1;
+        d = digit_at(s, i);
+    }
+    if s[i] != c {
+        return Taken { next: 0, value: 0 };
+    }
+    Taken {
+        next: i + 1,
+        value: v,
+    }
+}
+
+// The numbers of a line due, three of a pin, and the place of the next line; place 0 where the line is not plain.
+struct Due {
+    next: usize,
+    numbers: [u32; 4],
+}
+
+// What stands for a line that is not plain.
+const NOT_PLAIN: Due = Due {
+    next: 0,
+    numbers: [0; 4],
+};
+
+// Whether the word stands at `at` with a tab behind it, in a text that ends with byte 10.
+fn word_at(text: &[u8], at: usize, word: &[u8]) -> bool
+    requires { ⌜ at ≤ length (now text) ⌝ }
+    ensures { λ r. ⌜ (r ≡ true → WordTo (now (text .entry)) at (now (word .entry))) ⌝ }
+{
+    let n = text.len();
+    if n - at <= word.len() {
+        return false;
+    }
+    let e = at + word.len();
+    let stands = alike(&text[at..e], word);
+    stands & (text[e] == TAB) & (text[n - 1] == LINE_END)
+}
+
+// The line that begins at `at`, if it is the word and four numbers.
+fn four_at(text: &[u8], at: usize, word: &[u8]) -> Due
+    requires { ⌜ (at ≤ length (now text)) × All InField (now word) ⌝ }
+    ensures { λ r. ⌜ (0 < r .next → PlainTo (fourLine (now (word .entry))) fourOf (now (text .entry)) at (r .next) (allFour (r .numbers))) ⌝ }
+{
+    if !word_at(text, at, word) {
+        return NOT_PLAIN;
+    }
+    let x = number_at(text, at + word.len() + 1, TAB);
+    if x.next == 0 {
+        return NOT_PLAIN;
+    }
+    let y = number_at(text, x.next, TAB);
+    if y.next == 0 {
+        return NOT_PLAIN;
+    }
+    let z = number_at(text, y.next, TAB);
+    if z.next == 0 {
+        return NOT_PLAIN;
+    }
+    let u = number_at(text, z.next, LINE_END);
+    Due {
+        next: u.next,
+        numbers: [x.value, y.value, z.value, u.value],
+    }
+}
+
+// The line that begins at `at`, if it is a `pin` line.
+fn pin_at(text: &[u8], at: usize) -> Due
+    requires { ⌜ at ≤ length (now text) ⌝ }
+    ensures { λ r. ⌜ (0 < r .next → PlainTo pinLine pinOf (now (text .entry)) at (r .next) (threeOf (r .numbers))) ⌝ }
+{
+    if !word_at(text, at, b"pin") {
+        return NOT_PLAIN;
+    }
+    let a = at + 4;
+    let k = kind_of(text[a]);
+    if k == NO_KIND {
+        return NOT_PLAIN;
+    }
+    let e = a + 1;
+    let next = e + 1;
+    if !has_times(k) {
+        if text[e] != LINE_END {
+            return NOT_PLAIN;
+        }
+        let numbers = [k, 0, 0, 0];
+        return Due { next, numbers };
+    }
+    if text[e] != TAB {
+        return NOT_PLAIN;
+    }
+    let x = number_at(text, next, TAB);
+    if x.next == 0 {
+        return NOT_PLAIN;
+    }
+    let y = number_at(text, x.next, LINE_END);
+    Due {
+        next: y.next,
+        numbers: [k, x.value, y.value, 0],
+    }
+}
+
+// The line that begins at `at`, if it is the one due at i, counted from 0, in a design of p pins and a arcs.
+fn plain_at(text: &[u8], at: usize, p: usize, a: usize, i: usize) -> Due
+    requires { ⌜ (at ≤ length (now text)) × ((p < 100000000) × (a < 100000000)) ⌝ }
+    ensures { λ r. ⌜ (0 < r .next → PlainTo (dueLine p a i) (dueOf p i) (now (text .entry)) at (r .next) (dueIn p i (r .numbers))) ⌝ }
+{
+    if i < p {
+        return pin_at(text, at);
+    }
+    if i < p + a {
+        return four_at(text, at, b"arc");
+    }
+    four_at(text, at, b"test")
+}
+
 // ---- the first pass: everything but the table's room
 
 // The `design` line; the next line begins at `next`.
@@ -477,23 +579,32 @@ fn design_at(text: &[u8], next: usize) -> Checked
     design_fine(&text[0..e], 1)
 }
 
-// The line due at i, counted from 0, which begins at `at`; the next line begins at `next`.
-fn due_at(text: &[u8], at: usize, next: usize, p: usize, a: usize, i: usize) -> Checked
-    requires { ⌜ (at ≡ startOf 10 (now text) (i + 1)) × ((next ≡ nextAt 10 (now text) at) × ((p < 10000000) × ((a < 10000000) × (i < 100000000)))) ⌝ }
-    ensures { λ r. ⌜ r ≡ checkedOf (firstMet (dueAt (now (text .entry)) p a i)) ⌝ }
-{
-    let e = line_end(text, at, next);
-    let n = 2 + i;
-    if e == text.len() {
-        return Checked::Refused(Refusal::LineNotDue(n));
-    }
-    due_fine(p, a, i, &text[at..e], n)
-}
-
-// The place behind the lines due, or why one of them is refused.
+// The place behind a line due or several, or why one of them is refused.
 enum Passed {
     Behind(usize),
     Refused(Refusal),
+}
+
+// The line due at i, counted from 0, which begins at `at`.
+fn due_at(text: &[u8], at: usize, p: usize, a: usize, i: usize) -> Passed
+    requires { ⌜ (at ≡ startOf 10 (now text) (i + 1)) × ((p < 10000000) × ((a < 10000000) × (i < 100000000))) ⌝ }
+    ensures { λ r. ⌜ r ≡ passedOf (firstMet (dueAt (now (text .entry)) p a i)) (startOf 10 (now (text .entry)) (i + 2)) ⌝ }
+{
+    let q = plain_at(text, at, p, a, i);
+    if 0 < q.next {
+        return Passed::Behind(q.next);
+    }
+    let next = next_place(text, at);
+    let e = line_end(text, at, next);
+    let n = 2 + i;
+    if e == text.len() {
+        return Passed::Refused(Refusal::LineNotDue(n));
+    }
+    let c = due_fine(p, a, i, &text[at..e], n);
+    if let Checked::Refused(r) = c {
+        return Passed::Refused(r);
+    }
+    Passed::Behind(next)
 }
 
 // The n lines due, of which the first begins at `from`.
@@ -504,12 +615,15 @@ fn due_lines(text: &[u8], from: usize, p: usize, a: usize, n: usize) -> Passed
     let mut i = 0;
     let mut at = from;
     while i < n {
-        let next = next_place(text, at);
-        let c = due_at(text, at, next, p, a, i);
-        if let Checked::Refused(r) = c {
-            return Passed::Refused(r);
+        let q = due_at(text, at, p, a, i);
+        match q {
+            Passed::Refused(r) => {
+                return Passed::Refused(r);
+            }
+            Passed::Behind(next) => {
+                at = next;
+            }
         }
-        at = next;
         i += 1;
     }
     Passed::Behind(at)
@@ -603,80 +717,75 @@ fn survey(text: &[u8]) -> Surveyed
 
 // ---- the second pass: the table
 
-// The numbers of n fields behind the one that ends at e, written at w and behind it; 0 where there is none.
-fn put_numbers(l: &[u8], e: usize, table: &mut [u32], w: usize, n: usize)
-    requires { ⌜ (e ≤ length (now l)) × (w + n ≤ length (now table)) ⌝ }
-    ensures { λ _. ⌜ now (table .exit) ≡ sets (now (table .entry)) w (numbersOf (partsBehind 9 (now (l .entry)) e) n) ⌝ }
-{
-    let mut end = e;
-    let mut at = w;
-    let mut left = n;
-    while 0 < left {
-        let a = behind(l, end);
-        end = end_of(l, TAB, a);
-        table[at] = number(&l[a..end]);
-        at += 1;
-        left -= 1;
-    }
-}
-
-// The four numbers of a line, written at w and behind it.
-fn put_four(l: &[u8], table: &mut [u32], w: usize)
-    requires { ⌜ w + 4 ≤ length (now table) ⌝ }
-    ensures { λ _. ⌜ now (table .exit) ≡ sets (now (table .entry)) w (fourOf (now (l .entry))) ⌝ }
-{
-    let e = end_of(l, TAB, 0);
-    put_numbers(l, e, table, w, 4);
-}
-
-// A pin's kind, early and late, written at w and behind it; 0 for the times of a kind that has none.
-fn put_pin(l: &[u8], table: &mut [u32], w: usize)
-    requires { ⌜ w + 3 ≤ length (now table) ⌝ }
-    ensures { λ _. ⌜ now (table .exit) ≡ sets (now (table .entry)) w (pinOf (now (l .entry))) ⌝ }
-{
-    let a = behind(l, end_of(l, TAB, 0));
-    let e = end_of(l, TAB, a);
-    let k = letter_of(&l[a..e]);
-    let x = w + 1;
-    table[w] = k;
-    if has_times(k) {
-        put_numbers(l, e, table, x, 2);
-        return;
-    }
-    let y = x + 1;
-    table[x] = 0;
-    table[y] = 0;
-}
-
-// The numbers of the line due at i, written at w; the place behind them.
-fn put_due(l: &[u8], table: &mut [u32], w: usize, p: usize, i: usize) -> usize
-    requires { ⌜ w + length (dueOf p i (now l)) ≤ length (now table) ⌝ }
-    ensures { λ r. ⌜ (now (table .exit) ≡ sets (now (table .entry)) w (dueOf p i (now (l .entry)))) × (r ≡ w + length (dueOf p i (now (l .entry)))) ⌝ }
+// The numbers of the line due at i, counted from 0. A pin has three: its kind, early and late, the times 0 where the kind has none.
+fn due_numbers(l: &[u8], p: usize, i: usize) -> [u32; 4]
+    ensures { λ r. ⌜ dueIn p i r ≡ dueOf p i (now (l .entry)) ⌝ }
 {
     if i < p {
-        put_pin(l, table, w);
-        return w + 3;
+        let k = letter_of(field(l, 1));
+        if has_times(k) {
+            let x = number(field(l, 2));
+            let y = number(field(l, 3));
+            return [k, x, y, 0];
+        }
+        return [k, 0, 0, 0];
     }
-    put_four(l, table, w);
-    w + 4
+    let x = number(field(l, 1));
+    let y = number(field(l, 2));
+    let z = number(field(l, 3));
+    let u = number(field(l, 4));
+    [x, y, z, u]
 }
 
-// The numbers of the first line and of the n lines due, of which the first p are pins.
-fn fill(text: &[u8], table: &mut [u32], p: usize, n: usize)
-    requires { ⌜ (p ≤ n) × ((n < 100000000) × (4 + 3 * p + 4 * (n - p) ≤ length (now table))) ⌝ }
+// The numbers of the line due at i, counted from 0, which begins at `at`, in a design of p pins and a arcs, and the place of the next line.
+fn numbers_at(text: &[u8], at: usize, p: usize, a: usize, i: usize) -> Due
+    requires { ⌜ (at ≤ length (now text)) × ((p < 100000000) × (a < 100000000)) ⌝ }
+    ensures { λ r. ⌜ (r .next ≡ nextAt 10 (now (text .entry)) at) × (dueIn p i (r .numbers) ≡ dueOf p i (lineFrom (now (text .entry)) at)) ⌝ }
+{
+    let q = plain_at(text, at, p, a, i);
+    if 0 < q.next {
+        return q;
+    }
+    let next = next_place(text, at);
+    let e = line_end(text, at, next);
+    let numbers = due_numbers(&text[at..e], p, i);
+    Due { next, numbers }
+}
+
+// The numbers of the line due at i, written at w and behind it: three of a pin, else four; the place behind them.
+fn put_due(table: &mut [u32], w: usize, numbers: [u32; 4], p: usize, i: usize) -> usize
+    requires { ⌜ w + length (dueIn p i numbers) ≤ length (now table) ⌝ }
+    ensures { λ r. ⌜ (now (table .exit) ≡ sets (now (table .entry)) w (dueIn p i numbers)) × (r ≡ w + length (dueIn p i numbers)) ⌝ }
+{
+    let x = w + 1;
+    let y = x + 1;
+    let z = y + 1;
+    table[w] = numbers[0];
+    table[x] = numbers[1];
+    table[y] = numbers[2];
+    if i < p {
+        return z;
+    }
+    table[z] = numbers[3];
+    z + 1
+}
+
+// The numbers of the first line, four as of a line that is no pin's, and of the n lines due, of which the first p are pins and the next a arcs.
+fn fill(text: &[u8], table: &mut [u32], p: usize, a: usize, n: usize)
+    requires { ⌜ (p ≤ n) × ((a ≤ n) × ((n < 100000000) × (4 + 3 * p + 4 * (n - p) ≤ length (now table)))) ⌝ }
     ensures { λ _. ⌜ now (table .exit) ≡ sets (now (table .entry)) 0 (tableTo (now (text .entry)) p n) ⌝ }
 {
     let second = next_place(text, 0);
     let first = line_end(text, 0, second);
-    put_four(&text[0..first], table, 0);
+    let sizes = due_numbers(&text[0..first], 0, 0);
     let mut at = second;
-    let mut w = 4;
+    let mut w = put_due(table, 0, sizes, 0, 0);
     let mut i = 0;
     while i < n {
-        let next = next_place(text, at);
-        let e = line_end(text, at, next);
-        w = put_due(&text[at..e], table, w, p, i);
-        at = next;
+        let q = numbers_at(text, at, p, a, i);
+        let numbers = q.numbers;
+        w = put_due(table, w, numbers, p, i);
+        at = q.next;
         i += 1;
     }
 }
@@ -700,7 +809,7 @@ pub fn read(text: &[u8], table: &mut [u32]) -> Reading
             if table.len() < length {
                 return Reading::Refused(Refusal::TableRoom);
             }
-            fill(text, table, pins, pins + arcs + tests);
+            fill(text, table, pins, arcs, pins + arcs + tests);
             Reading::Read { length, mode, k }
         }
     }

@@ -1,13 +1,12 @@
 -- `reader::due_lines` meets its contract. The lines passed have no fault, and the next begins at `at`. Assumes nothing.
-use mathlib.Core.Path.{_≡_, refl, sym, _∙_}
+use mathlib.Core.Path.{_≡_, refl, sym, ap, _∙_}
 use Prim.Native.Nat.{_+_, _-_}
-use native.Mathlib.Numerals.{add-one}
 use native.Mathlib.Omega.{arith}
 use borrow.Author.Needs.{needs}
 use Rattle.lists.specs.Laws.Scan.{gather-none, gather-some}
 use Rattle.reader.specs.Answer.{passedOf}
-use Rattle.reader.proofs.Grounds.{Walking, walking-first, clean-more, checked-some, checked-none}
-use Rattle.reader.proofs.Lines.{next-line-at}
+use Rattle.reader.specs.Cut.{startOf}
+use Rattle.reader.proofs.Grounds.{Walking, walking-first, clean-more, passed-some, passed-none}
 use Rattle.reader.proofs.due_lines.Statement.{statement}
 use Rattle.reader.proofs.due_lines.Tie as tie
 
@@ -20,24 +19,18 @@ abbrev μ-loop : tie.MeasureT-loop
 loop-holds : tie.Need-loop-holds Inv-loop μ-loop
 loop-holds c = walking-first _ _ _ _ _ (c .before .pre .0)
 
-next-place-requires : tie.Need-next-place-requires Inv-loop μ-loop
-next-place-requires c κs = search needs
-
 due-at-requires : tie.Need-due-at-requires Inv-loop μ-loop
-due-at-requires c κs = let q = c .before .before .loop .inv in
-    (q .here, (c .next-place .ensures, (search needs, (search needs, search needs))))
+due-at-requires c κs = (c .before .loop .inv .here, (search needs, (search needs, search needs)))
 
-enum-known-c : tie.Need-enum-known-c Inv-loop μ-loop
-enum-known-c c = search needs
+enum-known-q : tie.Need-enum-known-q Inv-loop μ-loop
+enum-known-q c = search needs
 
 returns : tie.Need-returns Inv-loop μ-loop
 unfolding passedOf
-returns c =
-    let q = c .before .before .before .before .before .before .loop .inv in
-    rw (gather-some _ _ _ _ (c .before .before .before .before .before .loop-test .taken) (q .clean) (checked-some _ _ (sym (c .before .before .before .due-at .ensures) ∙ c .before .c .given .1))) refl
+returns c = rw (gather-some _ _ _ _ (c .before .before .before .before .loop-test .taken) (c .before .before .before .before .before .loop .inv .clean) (passed-some _ _ _ (sym (c .before .before .before .due-at .ensures) ∙ c .before .q .given .1))) refl
 
-enum-told : tie.Need-enum-told Inv-loop μ-loop
-enum-told c = search needs
+enum-known-q-2 : tie.Need-enum-known-q-2 Inv-loop μ-loop
+enum-known-q-2 c = search needs
 
 add-i : tie.Need-add-i Inv-loop μ-loop
 add-i c = search needs
@@ -46,20 +39,16 @@ loop-less : tie.Need-loop-less Inv-loop μ-loop
 loop-less c = search needs
 
 loop-again : tie.Need-loop-again Inv-loop μ-loop
-loop-again c =
-    let q = c .before .before .before .before .before .loop .inv in
-    record {
-      most = omega arith;
-      here = c .before .before .before .next-place .ensures ∙ next-line-at _ (c .before .before .before .before .before .loop .i + 1) _ _ _ (q .here) refl (add-one _);
-      clean = clean-more _ _ _ _ (q .clean) (checked-none _ (sym (c .before .before .due-at .ensures) ∙ c .enum-told .given .1));
-    }
+loop-again c = let q = c .before .before .before .before .before .loop in
+    let w = passed-none _ _ _ (sym (c .before .before .before .due-at .ensures) ∙ c .before .q2 .given .1) in
+    let k : q .i + 2 ≡ q .i + 1 + 1 = omega arith in
+    record { most = omega arith; here = w .1 ∙ ap (startOf 10 (c .before .before .before .before .before .before .before .args .text .now)) k; clean = clean-more _ _ _ _ (q .inv .clean) (w .0) }
 
 returns-2 : tie.Need-returns-2 Inv-loop μ-loop
 unfolding passedOf
-returns-2 c =
-    let q = c .before .loop .inv in
-    let k : c .before .loop .i ≡ c .before .before .before .args .n = omega arith in
-    rw (← k, gather-none _ _ (q .clean), q .here) refl
+returns-2 c = let q = c .before .loop in
+    let k : q .i ≡ c .before .before .before .args .n = omega arith in
+    rw (← k, gather-none _ _ (q .inv .clean), q .inv .here) refl
 
 pub due-lines-spec : {M : Type 1} → statement M
 due-lines-spec =
@@ -68,11 +57,10 @@ due-lines-spec =
     Inv-loop
     μ-loop
     loop-holds
-    next-place-requires
     due-at-requires
-    enum-known-c
+    enum-known-q
     returns
-    enum-told
+    enum-known-q-2
     add-i
     loop-less
     loop-again

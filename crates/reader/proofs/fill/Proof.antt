@@ -5,16 +5,19 @@ use native.Mathlib.Omega.{arith}
 use borrow.Author.Needs.{needs}
 use lib.ListN.{length}
 use Rattle.lists.specs.Laws.Write.{length-sets}
+use Rattle.lists.specs.Choice.{pick}
+use Rattle.timing.specs.Text.{dueOf}
+use Rattle.reader.specs.Scan.{dueIn}
 use Rattle.reader.specs.Cut.{start-most}
 use Rattle.reader.proofs.Writing.{Filling, filling-first, fits, filling-more, filled-all}
 use Rattle.reader.proofs.fill.Statement.{statement}
 use Rattle.reader.proofs.fill.Tie as tie
 
 abbrev Inv-loop : tie.InvT-loop
-Inv-loop text table₀ p n second first at₀ w₀ i₀ table at w i = Filling text p n table₀ table at w i
+Inv-loop text table₀ p a n second first at₀ w₀ i₀ table at w i = Filling text p n table₀ table at w i
 
 abbrev μ-loop : tie.MeasureT-loop
-μ-loop text table₀ p n second first at₀ w₀ i₀ table at w i = n - i
+μ-loop text table₀ p a n second first at₀ w₀ i₀ table at w i = n - i
 
 next-place-requires : tie.Need-next-place-requires Inv-loop μ-loop
 next-place-requires c κs = search needs
@@ -22,41 +25,37 @@ next-place-requires c κs = search needs
 line-end-requires : tie.Need-line-end-requires Inv-loop μ-loop
 line-end-requires c κs = (search needs, c .next-place .ensures)
 
-sub-put-four : tie.Need-sub-put-four Inv-loop μ-loop
-sub-put-four c = search needs
+sub-due-numbers : tie.Need-sub-due-numbers Inv-loop μ-loop
+sub-due-numbers c = search needs
 
-part-put-four-start : tie.Need-part-put-four-start Inv-loop μ-loop
-part-put-four-start c = search needs
+part-due-numbers-start : tie.Need-part-due-numbers-start Inv-loop μ-loop
+part-due-numbers-start c = search needs
 
-part-put-four-end : tie.Need-part-put-four-end Inv-loop μ-loop
-part-put-four-end c = search needs
+part-due-numbers-end : tie.Need-part-due-numbers-end Inv-loop μ-loop
+part-due-numbers-end c = search needs
 
-put-four-requires : tie.Need-put-four-requires Inv-loop μ-loop
-put-four-requires c κs = search needs
-
-same-room : (c : tie.After-slice-known2 Inv-loop μ-loop) → length (c .before .before .put-four .last .1 .0) ≡ length (c .before .before .before .before .before .before .before .before .before .args .table .now)
-same-room c = ap length (c .before .before .put-four .ensures) ∙ simp length-sets
-
-loop-holds : tie.Need-loop-holds Inv-loop μ-loop
-loop-holds c = filling-first _ _ _ _ _ (c .before .before .before .before .before .before .next-place .ensures)
-
-next-place-requires-2 : tie.Need-next-place-requires-2 Inv-loop μ-loop
-next-place-requires-2 c κs = search needs
-
-line-end-requires-2 : tie.Need-line-end-requires-2 Inv-loop μ-loop
-line-end-requires-2 c κs = (omega (arith, c .before .before .loop .inv .at, start-most 10 (c .before .before .before .before .before .before .before .before .before .before .before .before .args .text .now) (c .before .before .loop .i + 1)), c .next-place2 .ensures)
-
-sub-put-due : tie.Need-sub-put-due Inv-loop μ-loop
-sub-put-due c = search needs
-
-part-put-due-start : tie.Need-part-put-due-start Inv-loop μ-loop
-part-put-due-start c = search needs
-
-part-put-due-end : tie.Need-part-put-due-end Inv-loop μ-loop
-part-put-due-end c = search needs
+due-numbers-requires : tie.Need-due-numbers-requires Inv-loop μ-loop
+due-numbers-requires c κs = search needs
 
 put-due-requires : tie.Need-put-due-requires Inv-loop μ-loop
-put-due-requires c κs = fits _ _ _ _ _ _ _ _ _ (c .before .before .before .before .before .loop .inv) (c .before .before .before .before .loop-test .taken) (c .before .before .before .before .before .before .before .before .before .before .before .before .before .before .before .pre .0) (omega (arith, same-room (c .before .before .before .before .before .before), c .before .before .before .before .before .before .before .before .before .before .before .before .before .before .before .pre .1 .1))
+unfolding dueIn pick
+put-due-requires c κs = omega (arith, c .before .before .before .before .before .before .before .pre .1 .1 .1)
+
+same-room : (c : tie.After-slice-known2 Inv-loop μ-loop) → length (c .before .before .put-due .last .0) ≡ length (c .before .before .before .before .before .before .before .before .before .before .args .table .now)
+same-room c = ap length (c .before .before .put-due .ensures .0) ∙ simp length-sets
+
+loop-holds : tie.Need-loop-holds Inv-loop μ-loop
+unfolding dueIn pick
+loop-holds c = filling-first _ _ _ _ _ _ (c .before .before .before .before .before .before .before .next-place .ensures) (omega (arith, c .before .before .put-due .ensures .1))
+
+numbers-at-requires : tie.Need-numbers-at-requires Inv-loop μ-loop
+numbers-at-requires c κs = let st = c .before .before .before .before .before .before .before .before .before .before .before .before in
+    let q = c .before .loop in
+    (omega (arith, q .inv .at, start-most 10 (st .args .text .now) (q .i + 1)), (search needs, search needs))
+
+put-due-requires-2 : tie.Need-put-due-requires-2 Inv-loop μ-loop
+put-due-requires-2 c κs = let st = c .before .before .before .before .before .before .before .before .before .before .before .before .before .before .before in
+    fits _ _ _ _ _ _ _ _ _ _ (c .before .before .before .before .loop .inv) (c .before .before .before .loop-test .taken) (st .pre .0) (omega (arith, same-room (c .before .before .before .before .before), st .pre .1 .1 .1)) (c .before .before .numbers-at .ensures .1)
 
 add-i : tie.Need-add-i Inv-loop μ-loop
 add-i c = search needs
@@ -65,15 +64,17 @@ loop-less : tie.Need-loop-less Inv-loop μ-loop
 loop-less c = search needs
 
 loop-again : tie.Need-loop-again Inv-loop μ-loop
-loop-again c = filling-more _ _ _ _ _ _ _ _ _ _ _ _ (c .before .before .before .before .before .before .before .before .loop .inv) (c .before .before .before .before .before .before .before .loop-test .taken) (c .before .before .before .before .before .line-end2 .ensures .0) (c .before .before .before .before .before .before .next-place2 .ensures) (c .before .before .put-due .ensures .0) (c .before .before .put-due .ensures .1)
+loop-again c = let r = c .before .before .before .before .before .numbers-at .ensures in
+    filling-more _ _ _ _ _ _ _ _ _ _ _ _ (c .before .before .before .before .before .before .before .loop .inv) (c .before .before .before .before .before .before .loop-test .taken) (r .0) (r .1) (c .before .before .put-due2 .ensures .0) (c .before .before .put-due2 .ensures .1)
 
 same-length : tie.Need-same-length Inv-loop μ-loop
 same-length c = c .before .loop .inv .len ∙ same-room (c .before .before)
 
 returns : tie.Need-returns Inv-loop μ-loop
+unfolding dueOf pick
 returns c =
-    let k : c .before .loop .i ≡ c .before .before .before .before .before .before .before .before .before .before .before .args .n = omega arith in
-    c .before .loop .inv .wrote ∙ rw (k, c .before .before .before .before .put-four .ensures) (filled-all _ _ _ _ _ (c .before .before .before .before .before .before .before .line-end .ensures .0))
+    let k : c .before .loop .i ≡ c .before .before .before .before .before .before .before .before .before .before .before .before .args .n = omega arith in
+    c .before .loop .inv .wrote ∙ rw (k, c .before .before .before .before .put-due .ensures .0) (filled-all _ _ _ _ _ _ (c .before .before .before .before .before .before .before .before .line-end .ensures .0) (c .before .before .before .before .before .before .due-numbers .ensures))
 
 pub fill-spec : {M : Type 1} → statement M
 fill-spec =
@@ -83,17 +84,14 @@ fill-spec =
     μ-loop
     next-place-requires
     line-end-requires
-    sub-put-four
-    part-put-four-start
-    part-put-four-end
-    put-four-requires
-    loop-holds
-    next-place-requires-2
-    line-end-requires-2
-    sub-put-due
-    part-put-due-start
-    part-put-due-end
+    sub-due-numbers
+    part-due-numbers-start
+    part-due-numbers-end
+    due-numbers-requires
     put-due-requires
+    loop-holds
+    numbers-at-requires
+    put-due-requires-2
     add-i
     loop-less
     loop-again

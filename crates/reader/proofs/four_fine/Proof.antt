@@ -1,73 +1,61 @@
 -- `reader::four_fine` meets its contract. One return for each ground of a line of four numbers, in order. Assumes nothing.
-use mathlib.Core.Path.{_≡_, refl}
-use Prim.Native.Nat.{_-_}
-use native.Mathlib.Omega.{arith}
+use mathlib.Core.Path.{refl}
 use borrow.Author.Tests.{eq-eqb, ne-eqb}
 use borrow.Author.Needs.{needs}
 use Rattle.lists.specs.Choice.{firstMet}
-use Rattle.timing.specs.Line.{fieldCount, fourLine}
-use Rattle.reader.proofs.Fields.{other-is, count-all, four-are}
+use Rattle.timing.specs.Line.{otherWord, fourNumbers, fourLine}
 use Rattle.reader.proofs.four_fine.Statement.{statement}
 use Rattle.reader.proofs.four_fine.Tie as tie
 
-end-of-requires : tie.Need-end-of-requires
-end-of-requires c κs = search needs
-
-sub-alike : tie.Need-sub-alike
-sub-alike c = search needs
-
-part-alike-start : tie.Need-part-alike-start
-part-alike-start c = search needs
-
-part-alike-end : tie.Need-part-alike-end
-part-alike-end c = search needs
+field-requires : tie.Need-field-requires
+field-requires c κs = search needs
 
 alike-requires : tie.Need-alike-requires
 alike-requires c κs = search needs
 
 returns : tie.Need-returns
-unfolding fourLine firstMet
-returns c = rw (other-is _ _ (c .before .before .before .end-of .ensures .0) _, ← c .before .alike .ensures, c .if1 .taken) refl
+unfolding fourLine otherWord fourNumbers firstMet
+returns c = rw (← c .before .before .field .ensures, ← c .before .alike .ensures, c .if1 .taken) refl
 
-rest-of-requires : tie.Need-rest-of-requires
-rest-of-requires c κs = search needs
+field-count-requires : tie.Need-field-count-requires
+field-count-requires c κs = search needs
 
 returns-2 : tie.Need-returns-2
-unfolding fourLine firstMet
-returns-2 c =
-    let g = c .before .before .before .before .before .before .end-of .ensures .0 in
-    let n = count-all _ _ g in
-    rw (other-is _ _ g _, ← c .before .before .before .before .alike .ensures, c .before .before .before .if1 .left, ne-eqb (fieldCount (c .before .before .before .before .before .before .before .before .before .args .l .now)) 5 (λ z. c .if2 .taken (omega (arith, z, n, c .before .before .rest-of .ensures .0)))) refl
+unfolding fourLine otherWord fourNumbers firstMet
+returns-2 c = rw (← c .before .before .before .before .field .ensures, ← c .before .before .before .alike .ensures, c .before .before .if1 .left, ← c .before .field-count .ensures, ne-eqb _ 5 (c .if2 .taken)) refl
+
+is-number-requires : tie.Need-is-number-requires
+is-number-requires c κs = search needs
+
+is-number-requires-2 : tie.Need-is-number-requires-2
+is-number-requires-2 c κs = search needs
+
+is-number-requires-3 : tie.Need-is-number-requires-3
+is-number-requires-3 c κs = search needs
+
+is-number-requires-4 : tie.Need-is-number-requires-4
+is-number-requires-4 c κs = search needs
 
 returns-3 : tie.Need-returns-3
-unfolding fourLine firstMet
-returns-3 c =
-    let g = c .before .before .before .before .before .before .before .before .end-of .ensures .0 in
-    let n = count-all _ _ g in
-    let t = c .before .before .before .before .rest-of .ensures in
-    let k : fieldCount (c .before .before .before .before .before .before .before .before .before .before .before .args .l .now) ≡ 5 = omega (arith, n, t .0, c .before .before .if2 .left) in
-    rw (other-is _ _ g _, ← c .before .before .before .before .before .before .alike .ensures, c .before .before .before .before .before .if1 .left, eq-eqb _ 5 k, four-are _ _ g (omega (arith, t .0, c .before .before .if2 .left)), ← t .1 .0, c .if3 .taken) refl
+unfolding fourLine otherWord fourNumbers firstMet
+returns-3 c = rw (← c .before .before .before .before .before .before .before .before .before .field .ensures, ← c .before .before .before .before .before .before .before .before .alike .ensures, c .before .before .before .before .before .before .before .if1 .left, ← c .before .before .before .before .before .before .field-count .ensures, eq-eqb _ 5 (c .before .before .before .before .before .if2 .left), ← c .before .before .before .before .is-number .ensures, ← c .before .before .before .is-number2 .ensures, ← c .before .before .is-number3 .ensures, ← c .before .is-number4 .ensures, c .if3 .taken) refl
 
 returns-4 : tie.Need-returns-4
-unfolding fourLine firstMet
-returns-4 c =
-    let g = c .before .before .before .before .before .before .before .before .end-of .ensures .0 in
-    let n = count-all _ _ g in
-    let t = c .before .before .before .before .rest-of .ensures in
-    let k : fieldCount (c .before .before .before .before .before .before .before .before .before .before .before .args .l .now) ≡ 5 = omega (arith, n, t .0, c .before .before .if2 .left) in
-    rw (other-is _ _ g _, ← c .before .before .before .before .before .before .alike .ensures, c .before .before .before .before .before .if1 .left, eq-eqb _ 5 k, four-are _ _ g (omega (arith, t .0, c .before .before .if2 .left)), ← t .1 .0, c .if3 .left) refl
+unfolding fourLine otherWord fourNumbers firstMet
+returns-4 c = rw (← c .before .before .before .before .before .before .before .before .before .field .ensures, ← c .before .before .before .before .before .before .before .before .alike .ensures, c .before .before .before .before .before .before .before .if1 .left, ← c .before .before .before .before .before .before .field-count .ensures, eq-eqb _ 5 (c .before .before .before .before .before .if2 .left), ← c .before .before .before .before .is-number .ensures, ← c .before .before .before .is-number2 .ensures, ← c .before .before .is-number3 .ensures, ← c .before .is-number4 .ensures, c .if3 .left) refl
 
 pub four-fine-spec : {M : Type 1} → statement M
 four-fine-spec =
     tie.close
     (tie.spec
-    end-of-requires
-    sub-alike
-    part-alike-start
-    part-alike-end
+    field-requires
     alike-requires
     returns
-    rest-of-requires
+    field-count-requires
     returns-2
+    is-number-requires
+    is-number-requires-2
+    is-number-requires-3
+    is-number-requires-4
     returns-3
     returns-4)

@@ -1,4 +1,4 @@
--- `reader::number_in` meets its contract. The number of the field. Assumes nothing.
+-- `reader::number_in` meets its contract. The number in the field. Assumes nothing.
 use mathlib.Core.Path.{refl}
 use borrow.Author.Needs.{needs}
 use Rattle.timing.specs.Line.{numberIn}
@@ -11,12 +11,12 @@ field-requires c κs = search needs
 number-requires : tie.Need-number-requires
 number-requires c κs = search needs
 
-count-of-requires : tie.Need-count-of-requires
-count-of-requires c κs = search needs
+cast-result : tie.Need-cast-result
+cast-result c = search needs
 
 returns : tie.Need-returns
 unfolding numberIn
-returns c = rw (c .count-of .ensures, c .before .number .ensures, c .before .before .field .ensures) refl
+returns c = rw (c .number .ensures, c .before .field .ensures) refl
 
 pub number-in-spec : {M : Type 1} → statement M
-number-in-spec = tie.close (tie.spec field-requires number-requires count-of-requires returns)
+number-in-spec = tie.close (tie.spec field-requires number-requires cast-result returns)
