@@ -19,7 +19,7 @@ MOST_FRAME = 2048
 MOST_ARRAY = 1024
 
 # The crates whose code can be in the archive; programs keep their own arrays and are not looked at.
-LIBRARIES = ("lists", "timing", "reader", "tables", "ranked", "worst", "clocks", "engine", "winners", "report", "chthonyra")
+LIBRARIES = ("lists", "timing", "reader", "tables", "ranked", "clocks", "area", "arcs", "walker", "laying", "hints", "winners", "report", "chthonyra")
 
 SIZES = {"bool": 1, "u8": 1, "i8": 1, "u16": 2, "i16": 2, "u32": 4, "i32": 4, "u64": 8, "i64": 8, "usize": 8, "isize": 8, "Candidate": 24}
 
@@ -133,14 +133,16 @@ def constants():
 
 
 def arrays():
-    """Each array of the sources: where, and its bytes; an element whose type is not written counts as 24 bytes, the largest there is."""
+    """Each array of the sources: where, and its bytes; an element whose type is neither written nor a constant's counts as 24 bytes, the largest there is."""
     named = constants()
     for crate in LIBRARIES:
         path = os.path.join(ROOT, "crates", crate, "src", "lib.rt")
         with open(path, encoding="utf-8") as source:
-            for number, line in enumerate(source, 1):
+            lines = source.readlines()
+            typed = dict(re.findall(r"const (\w+): (\w+) =", "".join(lines)))
+            for number, line in enumerate(lines, 1):
                 for element, count in re.findall(r"(?<!&)\[([^\[\];]+); *((?:Design::)?\w+)\]", line.split("//")[0]):
-                    kind = re.sub(r"^\d+", "", element.strip())
+                    kind = typed.get(element, re.sub(r"^\d+", "", element.strip()))
                     yield f"{crate}/src/lib.rt:{number}", SIZES.get(kind, 24) * (named[count] if count in named else int(count))
 
 
