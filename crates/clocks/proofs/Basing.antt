@@ -12,7 +12,8 @@ use Rattle.timing.specs.Slack.{Mode, forSetup, forHold, startArrival}
 use Rattle.area.specs.Area.{Kept, basesAt, turnsAt}
 use Rattle.clocks.specs.Clocked.{Clocked, Starts, Based, baseOf, baseFor}
 use Rattle.clocks.specs.Small.{few-pins}
-use Rattle.clocks.specs.Kept.{kept-none, kept-set, clocked-behind}
+use Rattle.area.specs.Laws.Kept.{kept-none, kept-set}
+use Rattle.clocks.specs.Kept.{clocked-behind}
 
 module _ (t : Table) (p : ℕ) where
   pub base-setup : (h a : ℕ) → h ≡ p * 1000000 → a ≡ startArrival late (structure t) (times t) p → h + (256000000 - a) ≡ baseOf forSetup t p

@@ -21,7 +21,7 @@ use Rattle.area.specs.Area.{Kept, arrivalsAt, clocksAt, parentsAt, depthsAt, dr
 use Rattle.clocks.specs.Clocked.{Ready, ClockPin, Parented, ClockedTo, Clocked, driverFor}
 use Rattle.clocks.specs.Turn.{Next, Arrives}
 use Rattle.clocks.specs.Small.{few-pins, arc-place}
-use Rattle.clocks.specs.Kept.{kept-none, kept-set}
+use Rattle.area.specs.Laws.Kept.{kept-none, kept-set}
 
 -- ---- the numbers of a checked table
 

@@ -33,7 +33,7 @@ use Rattle.clocks.specs.Route.{Marked, NextSeed, routeCredit, driverIn, 
 use Rattle.clocks.specs.Small.{few-pins, pin-place, common-most}
 use Rattle.clocks.specs.Tree.{driver-none}
 use Rattle.clocks.specs.Known.{seed-base, seed-with}
-use Rattle.clocks.specs.Kept.{kept-none, kept-set}
+use Rattle.area.specs.Laws.Kept.{kept-none, kept-set}
 use Rattle.clocks.proofs.Seeding.{credit-some, credit-none}
 use Rattle.clocks.proofs.Routing.{Rising, rising, driven-or-free, driver-pin}
 

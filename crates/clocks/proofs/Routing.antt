@@ -31,7 +31,8 @@ use Rattle.clocks.specs.Route.{Unmarked, Marked, routeCredit}
 use Rattle.clocks.specs.Small.{few-pins, pin-place}
 use Rattle.clocks.specs.Tree.{Driven, driven, driver-some, driver-none}
 use Rattle.clocks.specs.Known.{credit-is}
-use Rattle.clocks.specs.Kept.{kept-none, kept-set, clocked-kept}
+use Rattle.area.specs.Laws.Kept.{kept-none, kept-set}
+use Rattle.clocks.specs.Kept.{clocked-kept}
 
 -- ---- no credits
 

@@ -18,7 +18,7 @@ ghost use Rattle.laying.specs.Standing.{Prepared, Walks};
 ghost use Rattle.laying.specs.Bounds.{slackOf, AllBounds};
 ghost use Rattle.winners.specs.Finding.{hintAt, Searching, Tries, Finished, Rounds, Won, Nothing, Numbered};
 ghost use Rattle.winners.specs.Walking.{At, Under, Nexts, Takes, Took, Added};
-ghost use Rattle.winners.specs.Held.{kept, Sized, Limit, Reach};
+ghost use Rattle.winners.specs.Held.{kept, countOf, Sized, Limit, Reach};
 
 // The ranked list of the best so far, how many of its places are counted, how many records were entered, as far as that is told, and the slot of each record's
 // walk; those behind the count are free.
@@ -158,6 +158,16 @@ fn next_serial(serial: usize) -> usize
     }
 }
 
+// The count that entering a record answers.
+fn counted(answer: timing::Entered) -> usize
+    ensures { λ r. ⌜ r ≡ countOf answer ⌝ }
+{
+    match answer {
+        timing::Entered::Count(n) => n,
+        timing::Entered::Refused(_) => 0,
+    }
+}
+
 // c enters the list, behind the records that stay, and the slot behind them with it.
 fn entered(best: Best, k: usize, c: Candidate) -> Best
     requires { ⌜ Sized k (best .list) (best .count) ⌝ }
@@ -170,9 +180,10 @@ fn entered(best: Best, k: usize, c: Candidate) -> Best
     let slots = place_slot(old, at, stay);
     let r = ranked::enter_in(list, stay, c);
     let new = r.list;
+    let answer = r.answer;
     Best {
         list: new,
-        count: stay + 1,
+        count: counted(answer),
         serial: next_serial(best.serial),
         slots: slots,
     }

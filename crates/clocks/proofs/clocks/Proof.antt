@@ -1,7 +1,7 @@
 -- `clocks::clocks` meets its contract: both write within the clock side's part. Assumes nothing.
 use native.Mathlib.Omega.{arith}
 use borrow.Author.Needs.{needs}
-use Rattle.clocks.specs.Kept.{kept-join, kept-wider}
+use Rattle.area.specs.Laws.Kept.{kept-join, kept-wider}
 use Rattle.clocks.proofs.clocks.Statement.{statement}
 use Rattle.clocks.proofs.clocks.Tie as tie
 

@@ -5,7 +5,8 @@ use borrow.Author.Needs.{needs}
 use lib.ListN.{length, length-set}
 use Rattle.area.specs.Area.{creditsAt, clocksAt}
 use Rattle.clocks.specs.Known.{spans}
-use Rattle.clocks.specs.Kept.{kept-join, clocked-kept}
+use Rattle.area.specs.Laws.Kept.{kept-join}
+use Rattle.clocks.specs.Kept.{clocked-kept}
 use Rattle.clocks.proofs.Routing.{Marking, above, marking-none, marking-few, marking-room, marking-clocked, marking-turn, marking-end}
 use Rattle.clocks.proofs.mark_route.Statement.{statement}
 use Rattle.clocks.proofs.mark_route.Tie as tie

@@ -4,7 +4,8 @@ use Prim.Native.Nat.{_-_}
 use native.Mathlib.Omega.{arith}
 use borrow.Author.Needs.{needs}
 use Rattle.area.specs.Area.{creditsAt, clocksAt}
-use Rattle.clocks.specs.Kept.{kept-join, kept-wider, clocked-kept, based-kept}
+use Rattle.area.specs.Laws.Kept.{kept-join, kept-wider}
+use Rattle.clocks.specs.Kept.{clocked-kept, based-kept}
 use Rattle.clocks.proofs.Handing.{Handing, handing-none, handing-next, handing-step, handing-end}
 use Rattle.clocks.proofs.seeds.Statement.{statement}
 use Rattle.clocks.proofs.seeds.Tie as tie
