@@ -1,11 +1,7 @@
--- The laws of the definitions, a file for each subject; each stands behind those that it rests on.
-pub mod Cases
+-- What the laws of proofs/Laws speak of, a file for each subject.
 pub mod Member
-pub mod Join
-pub mod Column
 pub mod Sum
 pub mod Count
-pub mod Chosen
 pub mod Means
 pub mod Decides
 pub mod Unmet
@@ -18,7 +14,5 @@ pub mod Exchange
 pub mod Top
 pub mod Under
 pub mod Falling
-pub mod Pieces
 pub mod Ranks
 pub mod Once
-pub mod Examples

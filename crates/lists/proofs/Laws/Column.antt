@@ -6,8 +6,8 @@ use Rattle.std.proofs.Math.Decide.{dec_lt}
 use Rattle.std.proofs.Math.ListN.{get_or-append}
 use Rattle.std.proofs.lemmas.List.{get_or_at}
 use Rattle.lists.specs.Parts.{below, each}
-use Rattle.lists.specs.Laws.Member.{length-each}
-use Rattle.lists.specs.Laws.Join.{each_more}
+use Rattle.lists.proofs.Laws.Member.{length-each}
+use Rattle.lists.proofs.Laws.Join.{each_more}
 
 -- there are n numbers below n
 pub length-below : (n : ℕ) → length (below n) ≡ n

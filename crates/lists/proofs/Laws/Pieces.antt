@@ -9,12 +9,15 @@ use Prim.Native.Nat.{ℕ, zero, suc, ◌+◌, ◌<◌}
 use Rattle.std.proofs.Math.IntN.{sub_ℕ}
 use Rattle.std.specs.Int.Signed.{lt_z}
 use Rattle.lists.specs.Parts.{below, each, gather}
-use Rattle.lists.specs.Laws.Cases.{by-test}
-use Rattle.lists.specs.Laws.Member.{In, All, Pairs, all_of, all_app, pairs-front}
-use Rattle.lists.specs.Laws.Join.{each-join}
-use Rattle.lists.specs.Laws.Column.{column-length, column-at}
-use Rattle.lists.specs.Laws.Integer.{Within, less-within, not-less-within, sub_is}
-use Rattle.lists.specs.Laws.Ranking.{Sorted, Perm, perm_same, none_left, keep, swap, then}
+use Rattle.lists.proofs.Laws.Cases.{by-test}
+use Rattle.lists.specs.Laws.Member.{In, All, Pairs}
+use Rattle.lists.proofs.Laws.Member.{all_of, all_app, pairs-front}
+use Rattle.lists.proofs.Laws.Join.{each-join}
+use Rattle.lists.proofs.Laws.Column.{column-length, column-at}
+use Rattle.lists.specs.Laws.Integer.{Within}
+use Rattle.lists.proofs.Laws.Integer.{less-within, not-less-within, sub_is}
+use Rattle.lists.specs.Laws.Ranking.{Sorted, Perm, none_left, keep, swap, then}
+use Rattle.lists.proofs.Laws.Ranking.{perm_same}
 
 -- ---- a function of each item
 
@@ -109,7 +112,6 @@ first-least key d x (y ∷ l) h (inl e) = rw e (omega arith)
 first-least key d x (y ∷ l) h (inr i) = all_of (λ z. Within 0 (key y) (key z)) l h.0 x i
 
 -- ---- parts in any order
-
 module _ {A : Type 0} where
   perm-into : (x : A) (xs ys : List A) → Perm (x ∷ xs ++ ys) (xs ++ x ∷ ys)
   perm-into x [] ys = perm_same (x ∷ ys)
@@ -138,7 +140,6 @@ perm-gather f (swap {x = x} {y = y} {l = l}) = rw (← append_assoc (f x) (f y) 
 perm-gather f (then p q) = then (perm-gather f p) (perm-gather f q)
 
 -- ---- differences
-
 -- two numbers moved alike compare as before
 pub moved-less : (a b up down : ℕ) → lt_z (sub_ℕ (a + up) down) (sub_ℕ (b + up) down) ≡ lt_z (pos a) (pos b)
 moved-less a b up down =

@@ -8,7 +8,7 @@ use mathlib.Core.List.{List, [], ◌∷◌, ◌++◌, append_assoc, append-nil}
 use Rattle.std.proofs.Math.Numerals.{add-one}
 use Rattle.lists.specs.Choice.{pick}
 use Rattle.lists.specs.Parts.{below, those, last, each, gather}
-use Rattle.lists.specs.Laws.Cases.{by-test}
+use Rattle.lists.proofs.Laws.Cases.{by-test}
 
 -- ---- all are a `gather`
 
@@ -60,7 +60,6 @@ pub those-join : {A : Type 0} (p : A → Bool) (xs ys : List A) → those p (xs 
 those-join p xs ys = simp those-gather (gather-join (λ x. pick (p x) (x ∷ []) []) xs ys)
 
 -- ---- one number more
-
 module _ {B : Type 0} where
   -- what f gives of n comes last
   pub gather-more : (f : ℕ → List B) (n : ℕ) → gather f (below (n + 1)) ≡ gather f (below n) ++ f n

@@ -8,8 +8,9 @@ use Rattle.std.proofs.lemmas.Bool.{false≢true}
 use mathlib.Core.List.{List, [], ◌∷◌, ◌++◌, append-nil}
 use Rattle.std.proofs.Math.Option.{Option, none, some}
 use Rattle.lists.specs.Choice.{holds, Ground, ground, first_met}
-use Rattle.lists.specs.Laws.Cases.{by-test}
-use Rattle.lists.specs.Laws.Member.{In, All, all_of}
+use Rattle.lists.proofs.Laws.Cases.{by-test}
+use Rattle.lists.specs.Laws.Member.{In, All}
+use Rattle.lists.proofs.Laws.Member.{all_of}
 
 -- ---- several tests
 
@@ -63,7 +64,6 @@ module _ {X : Type 0} where
   not-both r e = let q : ◌≡◌ {A = ℕ} 0 1 = cc in absurd (omega arith)
 
   -- ---- nothing is given
-
   abbrev Fails : Ground X → Type 0
   Fails g = g.met ≡ false
 
@@ -80,7 +80,6 @@ module _ {X : Type 0} where
   none-exactly gs = (λ e. all_of Fails gs (all-fail gs e), λ h. ap first_met (sym (append-nil gs)) ∙ met-after gs [] h ∙ met-none)
 
   -- ---- part by part
-
   -- a part that gives nothing leaves it to what stands behind
   pub met-append : (xs ys : List (Ground X)) → first_met xs ≡ none → first_met (xs ++ ys) ≡ first_met ys
   met-append xs ys e = met-after xs ys ((none-exactly xs).0 e)
