@@ -1,5 +1,4 @@
--- What follows from the definitions.
-pub mod Kinds
+-- What the laws of proofs/Laws speak of, a file for each subject.
 pub mod Sound
 pub mod Routes
 pub mod Common
@@ -10,13 +9,8 @@ pub mod Ranged
 pub mod Cancel
 pub mod Bounds
 pub mod Order
-pub mod Columns
 pub mod Accepted
 pub mod Wider
-pub mod Unwritten
-pub mod Lines
 pub mod Written
 pub mod Steps
 pub mod Counted
-pub mod Valued
-pub mod Least

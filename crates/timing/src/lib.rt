@@ -1,10 +1,12 @@
 // The design's type with its limits, which kind of pin may drive which, the refusals, and what the operations answer.
+#![tactic(auto)]
+
 ghost use Rattle.std.specs.Prelude.{◌≡◌};
 ghost use Rattle.timing.specs.Kinds.{may_drive};
 ghost use Rattle.timing.specs.Refusals.{number_of, place_of};
 
 // The sizes of a design. The limits belong to this type.
-#[derive(Drop)]
+#[derive(Clone, Copy)]
 pub struct Design {
     pub pins: usize,
     pub arcs: usize,
@@ -51,7 +53,7 @@ impl Design {
 }
 
 // The kind of a pin, as the table has it.
-#[derive(Drop)]
+#[derive(Clone, Copy)]
 pub struct Kind {
     pub number: usize,
 }
@@ -86,7 +88,7 @@ pub fn may_drive(from: usize, to: usize) -> bool
 }
 
 // Why an operation refuses; with it the line, pin, arc or test where it has one.
-#[derive(Drop)]
+#[derive(Clone, Copy)]
 pub enum Refusal {
     // 1: the text is over its limit.
     TextLong,
@@ -171,21 +173,21 @@ pub fn place_of(r: Refusal) -> usize
 }
 
 // What the check of a table, or of a line, answers.
-#[derive(Drop)]
+#[derive(Clone, Copy)]
 pub enum Checked {
     Fine,
     Refused(Refusal),
 }
 
 // What reading a text answers: the table's length, the mode and k.
-#[derive(Drop)]
+#[derive(Clone, Copy)]
 pub enum Reading {
     Read { length: usize, mode: u32, k: usize },
     Refused(Refusal),
 }
 
 // What an asking answers: rows given and total.
-#[derive(Drop)]
+#[derive(Clone, Copy)]
 pub enum Answer {
     Given { rows: usize, total: u64 },
     Refused(Refusal),
@@ -193,7 +195,7 @@ pub enum Answer {
 
 // A candidate record of the ranked list. It crosses to C as it is.
 #[repr(C)]
-#[derive(Drop)]
+#[derive(Clone, Copy)]
 pub struct Candidate {
     pub slack: i64,
     pub test: u64,
@@ -201,7 +203,7 @@ pub struct Candidate {
 }
 
 // What entering a record answers: the new count.
-#[derive(Drop)]
+#[derive(Clone, Copy)]
 pub enum Entered {
     Count(usize),
     Refused(Refusal),

@@ -5,8 +5,8 @@ use Rattle.std.proofs.Math.Path.{ap}
 use Rattle.std.proofs.Common.{◌∙◌}
 use Rattle.std.proofs.Math.Dec.{eqb}
 use Rattle.lists.specs.Parts.{below, those}
-use Rattle.lists.specs.Laws.Member.{those-cong, in-below}
-use Rattle.lists.specs.Laws.Column.{column-length, column-at}
+use Rattle.lists.proofs.Laws.Member.{those-cong, in-below}
+use Rattle.lists.proofs.Laws.Column.{column-length, column-at}
 use Rattle.timing.specs.Kinds.{R}
 use Rattle.timing.specs.Table.{Table, pin_count, arc_count, test_count, pin_kind, arc_from, arc_to, test_clock, test_data}
 use Rattle.timing.specs.Structure.{pins, arcs, tests, kind, leaves, enters, clock_pin, data_pin, structure}

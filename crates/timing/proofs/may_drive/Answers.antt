@@ -8,11 +8,10 @@ use borrow.Author.Rules.{rules}
 use lib.ListN.{get_or}
 use Rattle.lists.specs.Choice.{pick}
 use Rattle.lists.specs.Parts.{below, any, every}
-use Rattle.lists.specs.Laws.Member.{every_in, into-below}
+use Rattle.lists.proofs.Laws.Member.{every_in, into-below}
 use Rattle.timing.specs.Kinds.{allowed, may_drive}
-use Rattle.timing.specs.Laws.Kinds.{drive-kinds}
-use Rattle.timing.proofs.may_drive.Statement.{statement}
-use Rattle.timing.proofs.may_drive.Tie as tie
+use Rattle.timing.proofs.Laws.Kinds.{drive-kinds}
+use Rattle.timing.proofs.may_drive.Goals as goal
 
 -- the code's table
 entries : List Bool
@@ -57,25 +56,12 @@ beyond f k h = go (may_drive f k) refl
     go true e = let r = drive-kinds f k e in absurd (h r.0 r.1)
     go false e = refl
 
-mul-result : tie.Need-overflow-mul-result
-mul-result c = search rules
-
-add-result : tie.Need-overflow-add-result
-add-result c = search rules
-
-array-read-result : tie.Need-array-read-result
-array-read-result c = search rules
-
-returns : tie.Need-returns
+pub returns-then-to-lt-KINDS : goal.returns-then-to-lt-KINDS
 unfolding entries
-returns c = right-at _ _ (search rules) (search rules)
+returns-then-to-lt-KINDS c = right-at _ _ (search rules) (search rules)
 
-returns-2 : tie.Need-returns-2
-returns-2 c = beyond _ _ (λ l m. omega arith)
+pub returns-else-to-lt-KINDS : goal.returns-else-to-lt-KINDS
+returns-else-to-lt-KINDS c = beyond _ _ (λ l m. omega arith)
 
-returns-3 : tie.Need-returns-3
-returns-3 c = beyond _ _ (λ l m. omega arith)
-
-pub may-drive-spec : {M : Type 1} → statement M
-may-drive-spec =
-    tie.close (tie.spec mul-result add-result array-read-result returns returns-2 returns-3)
+pub returns-else-from-lt-KINDS : goal.returns-else-from-lt-KINDS
+returns-else-from-lt-KINDS c = beyond _ _ (λ l m. omega arith)

@@ -16,8 +16,8 @@ use Rattle.std.proofs.Math.IntN.{sub_ℕ}
 use Rattle.lists.specs.Choice.{pick}
 use Rattle.lists.specs.Parts.{sum, last}
 use Rattle.lists.specs.Laws.Member.{In}
-use Rattle.lists.specs.Laws.Sum.{sum_bound}
-use Rattle.lists.specs.Laws.Integer.{same-difference}
+use Rattle.lists.proofs.Laws.Sum.{sum_bound}
+use Rattle.lists.proofs.Laws.Integer.{same-difference}
 use Rattle.timing.specs.Limits.{most_time}
 use Rattle.timing.specs.Kinds.{K}
 use Rattle.timing.specs.Table.{early, late}
@@ -27,9 +27,11 @@ use Rattle.timing.specs.Paths.{walks, Path, path, start}
 use Rattle.timing.specs.Slack.{Mode, for_setup, for_hold, start_arrival, path_credit, gain, loss, slack}
 use Rattle.timing.specs.Value.{value_of, value, base, credit_from, weight_of, seed_of, raise, lower}
 use Rattle.timing.specs.Laws.Sound.{Sound}
-use Rattle.timing.specs.Laws.Ranged.{Ranged, clock-order}
-use Rattle.timing.specs.Laws.Routes.{climb-arcs, length-climb, meeting, root_is}
-use Rattle.timing.specs.Laws.Walked.{Walk, last-arc, walk-rises, walk-arcs, exactly-walks}
+use Rattle.timing.specs.Laws.Ranged.{Ranged}
+use Rattle.timing.proofs.Laws.Ranged.{clock-order}
+use Rattle.timing.proofs.Laws.Routes.{climb-arcs, length-climb, meeting, root_is}
+use Rattle.timing.specs.Laws.Walked.{Walk}
+use Rattle.timing.proofs.Laws.Walked.{last-arc, walk-rises, walk-arcs, exactly-walks}
 
 -- the credit of a path is that of its start, against its test's clock pin
 pub credit-from : (m : Mode) (s : Structure) (x : Times) (p : Path) → credit_from m s x (clock_pin s p.test) (start s p) ≡ path_credit m s x p
@@ -84,7 +86,6 @@ module _ (s : Structure) (ok : Sound s) (x : Times) (r : Ranged s x) where
   delay-step a l = omega (arith, ok.rises a l, r.delay-most a l)
 
   -- ---- setup
-
   -- the weights of a walk and its late delays are the steps from its start
   setup-sum : (v : ℕ) (w : List ℕ) → Walk s v w
       → sum (weight_of for_setup ok.level s x) w + sum (x.delay late) w + ok.level (leaves s (last 0 w)) * most_time ≡ ok.level v * most_time
@@ -104,7 +105,6 @@ module _ (s : Structure) (ok : Sound s) (x : Times) (r : Ranged s x) where
   setup-value c v w h = omega (arith, setup-sum v w h, start-most (leaves s (last 0 w)) (start-in v w h))
 
   -- ---- the slack, and the bound
-
   balance : (m : Mode) (j : ℕ) (w : List ℕ) → Walk s (data_pin s j) w
       → gain m s x (path j w) + credit_from m s x (clock_pin s j) (leaves s (last 0 w)) + lower m ok.level s x j
       ≡ value m ok.level s x (clock_pin s j) w + raise m s x j + loss m s x (path j w)
@@ -142,7 +142,6 @@ module _ (s : Structure) (ok : Sound s) (x : Times) (r : Ranged s x) where
       go for_hold h b k = omega (arith, hold-sum v l w h, start-order (leaves s (last 0 w)) k, start-most (leaves s (last 0 w)) k)
 
   -- ---- the parts of a value, and what a test adds and takes
-
   -- a seed is below 2^30 too
   pub seed-most : (m : Mode) (c p : ℕ) → c < pins s → kind s c ≡ K → p < pins s → seed_of m ok.level s x c p < 1073741824
   unfolding seed_of

@@ -2,8 +2,9 @@
 -- Assumes nothing.
 use Rattle.std.specs.Prelude.{◌≡◌, refl, ◌⊎◌, true, ◌&&◌, ℕ, ◌<◌, eqb}
 use Rattle.std.proofs.Common.{inl, inr, arith, eqb-true}
-use Rattle.lists.specs.Laws.Cases.{and_both}
-use Rattle.lists.specs.Laws.Member.{In, any-in}
+use Rattle.lists.proofs.Laws.Cases.{and_both}
+use Rattle.lists.specs.Laws.Member.{In}
+use Rattle.lists.proofs.Laws.Member.{any-in}
 use Rattle.timing.specs.Kinds.{R, B, K, I, D, Pair, allowed, may_drive}
 
 -- what holds of the seven pairs holds of every pair that is allowed

@@ -4,8 +4,8 @@ use Rattle.std.specs.Prelude.{◌≡◌, refl, Bool, true, false, List, [], ◌�
 use Rattle.std.proofs.Common.{ap, ◌∙◌, add-zero, add-suc, add-one, arith, lt-ltb, le-ltb, length-append}
 use Rattle.lists.specs.Choice.{pick}
 use Rattle.lists.specs.Parts.{below, sum, gather, onto, split}
-use Rattle.lists.specs.Laws.Sum.{sum_more, sum-cong}
-use Rattle.lists.specs.Laws.Count.{length-gather}
+use Rattle.lists.proofs.Laws.Sum.{sum_more, sum-cong}
+use Rattle.lists.proofs.Laws.Count.{length-gather}
 use Rattle.timing.specs.Field.{Bytes}
 use Rattle.timing.specs.Line.{four_of, pin_of}
 use Rattle.timing.specs.Text.{parts, line_of, behind, line_start, pins_of, arcs_of, tests_of, lines_due, table_length, due_of, table_of}
@@ -55,7 +55,6 @@ line-in x zero = omega arith
 line-in x (suc n) = behind-in x n
 
 -- ---- how long the table is
-
 -- three numbers of a pin, four of an arc or a test
 abbrev due_count : ℕ → ℕ → ℕ
 due_count p i = pick (ltb i p) 3 4

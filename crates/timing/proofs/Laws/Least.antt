@@ -2,16 +2,17 @@
 -- clock pin itself, since what a start has in common with the ancestor it has in common with the clock pin, and credits grow down the tree. So values against a
 -- common ancestor of all clock pins, R for one, are at most those of each test (`value-above`).
 -- Assumes nothing.
-use Rattle.std.specs.Prelude.{◌≡◌, ◌⊎◌, List, [], ◌∷◌, ◌++◌}
-use Rattle.std.proofs.Common.{inl, eq-eqb, ne_eqb}
+use Rattle.std.specs.Prelude.{◌≡◌, ◌⊎◌, List, [], ◌∷◌}
+use Rattle.std.proofs.Common.{inl, eq-eqb, ne_eqb, sym, subst}
 use Rattle.std.proofs.Math.Logic.{inr}
 use Prim.Native.Nat.{ℕ, ◌+◌, ◌≤◌, ◌<◌}
 use native.Mathlib.Omega.{arith}
 use Rattle.std.proofs.Math.Decide.{ℕ_discrete}
 use Rattle.lists.specs.Choice.{pick}
-use Rattle.lists.specs.Parts.{sum, last}
-use Rattle.lists.specs.Laws.Member.{In, in_one, in-each, into-each, in_right, in_left}
-use Rattle.lists.specs.Laws.Sum.{sum-append, sum-le}
+use Rattle.lists.specs.Parts.{sum, last, each}
+use Rattle.lists.specs.Laws.Member.{In}
+use Rattle.lists.proofs.Laws.Member.{in_one, in-each, into-each, in_right, in_left}
+use Rattle.lists.proofs.Laws.Sum.{sum-append, sum-le}
 use Rattle.timing.specs.Kinds.{R, B, K}
 use Rattle.timing.specs.Table.{early, late}
 use Rattle.timing.specs.Structure.{Structure, pins, arcs, kind, leaves, enters, Times}
@@ -19,12 +20,13 @@ use Rattle.timing.specs.Clock.{climb, route, clock_arrival, common, pin_credit}
 use Rattle.timing.specs.Paths.{walks}
 use Rattle.timing.specs.Slack.{Mode, for_setup, for_hold}
 use Rattle.timing.specs.Value.{value_of, credit_from, seed_of, value}
-use Rattle.timing.specs.Laws.Kinds.{drive-clock, drive-root}
+use Rattle.timing.proofs.Laws.Kinds.{drive-clock, drive-root}
 use Rattle.timing.specs.Laws.Sound.{Sound}
 use Rattle.timing.specs.Laws.Ranged.{Ranged}
-use Rattle.timing.specs.Laws.Routes.{climb-arcs, climb-ind, climb-split, route-top, route-step, Clocked, common-on}
-use Rattle.timing.specs.Laws.Common.{lowest-common}
-use Rattle.timing.specs.Laws.Walked.{last-arc, walks-sound}
+use Rattle.timing.proofs.Laws.Routes.{climb-arcs, climb-ind, climb-split, route-top, route-step, common-on}
+use Rattle.timing.specs.Laws.Routes.{Clocked}
+use Rattle.timing.proofs.Laws.Common.{lowest-common}
+use Rattle.timing.proofs.Laws.Walked.{last-arc, walks-sound}
 
 -- ---- arc by arc
 
@@ -68,11 +70,13 @@ module _ (s : Structure) (ok : Sound s) where
 
   route-up : (z y p : ℕ) → p < pins s → In y (route s p) → In z (route s y) → In z (route s p)
   unfolding route
-  route-up z y p l h (inl e) = rw e h
+  route-up z y p l h (inl e) = subst (λ (u : ℕ). In u (route s p)) (sym e) h
   route-up z y p l h (inr i) =
       let q = in-each (leaves s) z (climb s y) i in
       let f = climb-split s ok y p l h in
-      inr (rw (q.2, f.meets) (into-each (leaves s) q.0 (f.front ++ climb s y) (in_right q.0 f.front (climb s y) q.1)))
+      let onto : In (leaves s q.0) (each (leaves s) (climb s p)) =
+      into-each (leaves s) q.0 (climb s p) (rw f.meets (in_right q.0 f.front (climb s y) q.1)) in
+      inr (subst (λ (u : ℕ). In u (each (leaves s) (climb s p))) (sym q.2) onto)
 
   module _ (x : Times) (r : Ranged s x) where
     -- credits grow down the tree

@@ -1,0 +1,21 @@
+-- The laws of the definitions, a file for each subject; each stands behind those that it rests on.
+pub mod Kinds
+pub mod Routes
+pub mod Common
+pub mod Walked
+pub mod Listed
+pub mod Picks
+pub mod Ranged
+pub mod Cancel
+pub mod Bounds
+pub mod Order
+pub mod Columns
+pub mod Accepted
+pub mod Wider
+pub mod Unwritten
+pub mod Lines
+pub mod Written
+pub mod Steps
+pub mod Counted
+pub mod Valued
+pub mod Least
