@@ -10,8 +10,9 @@ use borrow.Author.Tests.{ne_eqb, eq-eqb}
 use lib.ListN.{length, get_or, set, length-set, get_or-eq_default}
 use lib.Seq.{get_or-set_same, get_or-set_other}
 use Rattle.lists.specs.Choice.{pick, ground, first_met}
-use Rattle.lists.specs.Laws.Cases.{clash}
-use Rattle.lists.specs.Laws.Scan.{Lowest, gather_none, gather-some, bit, tally-none, tally-yes, tally-no, tally-most}
+use Rattle.lists.proofs.Laws.Cases.{clash}
+use Rattle.lists.specs.Laws.Scan.{Lowest, bit}
+use Rattle.lists.proofs.Laws.Scan.{gather_none, gather-some, tally-none, tally-yes, tally-no, tally-most}
 use Rattle.timing.specs.declared.Refusal.TheVariants.{ArcEnds, ArcKinds, ArcRange}
 use Rattle.timing.specs.Limits.{most_pins}
 use Rattle.timing.specs.Table.{Table, arc_count, arc_to}

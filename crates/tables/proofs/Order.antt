@@ -7,8 +7,9 @@ use mathlib.Core.List.{List, ◌∷◌, ◌++◌}
 use mathlib.Core.Option.{some}
 use borrow.Author.Tests.{eq-eqb, ne_eqb}
 use Rattle.lists.specs.Choice.{Ground, ground, first_met}
-use Rattle.lists.specs.Laws.Chosen.{ground-here, ground-on, met-append, met-front}
-use Rattle.lists.specs.Laws.Scan.{Lowest, lowest-none, lowest-some, tally}
+use Rattle.lists.proofs.Laws.Chosen.{ground-here, ground-on, met-append, met-front}
+use Rattle.lists.specs.Laws.Scan.{Lowest, tally}
+use Rattle.lists.proofs.Laws.Scan.{lowest-none, lowest-some}
 use Rattle.timing.specs.declared.Refusal.{Refusal}
 use Rattle.timing.specs.declared.Refusal.TheVariants.{TableHeader, PinNumbers, RootCount, ArcsInto, TestNumbers}
 use Rattle.timing.specs.declared.Checked.TheVariants.{Fine, Refused}

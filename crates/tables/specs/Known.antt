@@ -9,7 +9,8 @@ use Rattle.timing.specs.declared.Checked.TheVariants.{Fine, Refused}
 use Rattle.timing.specs.Refusals.{checked_of}
 use Rattle.timing.specs.Table.{Table}
 use Rattle.timing.specs.Check.{table_fault}
-use Rattle.timing.specs.Laws.Accepted.{Accepted, accepted}
+use Rattle.timing.specs.Laws.Accepted.{Accepted}
+use Rattle.timing.proofs.Laws.Accepted.{accepted}
 
 -- the contract decides the answer
 pub check-decides : (t : Table) (r s : Checked) → r ≡ checked_of (table_fault t) → s ≡ checked_of (table_fault t) → r ≡ s

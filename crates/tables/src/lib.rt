@@ -1,4 +1,6 @@
 // The check of a table, refusals 6 to 13 in the order of document 01; and the table's numbers, for whoever reads it.
+#![tactic(auto)]
+
 ghost use Rattle.std.specs.Prelude.{◌≡◌, ◌<◌, get_or};
 ghost use Rattle.lists.specs.Laws.Scan.{Lowest, bit, tally};
 ghost use Rattle.timing.specs.Table.{pin_count, arc_count, test_count, period_of, of_pin, of_arc, of_test};
