@@ -4,7 +4,7 @@ use native.Mathlib.Decide.{dec_le}
 use borrow.Author.Tests.{lt-leb}
 use Rattle.lists.specs.Choice.{pick}
 use Rattle.lists.specs.Parts.{every, same}
-use Rattle.lists.specs.Laws.Cut.{one_on}
+use Rattle.lists.proofs.Laws.Cut.{one_on}
 use Rattle.timing.specs.Field.{digit, well_formed, value_from, value, number_or_0}
 use Rattle.timing.specs.Line.{field_of, number_in}
 

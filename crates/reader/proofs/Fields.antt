@@ -2,7 +2,7 @@
 use Rattle.std.proofs.Common.{◌≡◌, ℕ, ◌+◌, ◌<◌, ◌≤◌, length, get_or, drop, zero-add, arith, drop_of_length-le, eq-eqb, ne_eqb}
 use Rattle.lists.specs.Choice.{pick}
 use Rattle.lists.specs.Parts.{split}
-use Rattle.lists.specs.Laws.Cut.{split-some, one_on}
+use Rattle.lists.proofs.Laws.Cut.{split-some, one_on}
 use Rattle.timing.specs.Field.{Bytes}
 use Rattle.timing.specs.Line.{field_count}
 use Rattle.reader.specs.Cut.{onto-long}

@@ -4,7 +4,7 @@ use mathlib.Core.Option.{Option, none, some}
 use native.Mathlib.Decide.{ℕ_discrete}
 use Rattle.lists.specs.Choice.{pick, Ground, ground, first_met}
 use Rattle.lists.specs.Parts.{below, gather, written}
-use Rattle.lists.specs.Laws.Chosen.{met-append, met-front}
+use Rattle.lists.proofs.Laws.Chosen.{met-append, met-front}
 use Rattle.timing.specs.declared.Refusal.{Refusal}
 use Rattle.timing.specs.declared.Refusal.TheVariants.{FieldForm, LineNotDue, TableRoom, TextLong}
 use Rattle.timing.specs.declared.Checked.TheVariants.{Fine, Refused}
@@ -19,7 +19,8 @@ use Rattle.reader.specs.declared.Passed.TheVariants.{Behind, Refused as PassedRe
 use Rattle.reader.specs.declared.Surveyed.TheVariants.{Fine as SurveyFine, Refused as SurveyRefused}
 use Rattle.lists.specs.Laws.Cut.{end_at}
 use Rattle.reader.specs.Cut.{start_of}
-use Rattle.lists.specs.Laws.Write.{sets, sets-front}
+use Rattle.lists.specs.Laws.Write.{sets}
+use Rattle.lists.proofs.Laws.Write.{sets-front}
 use Rattle.reader.specs.Answer.{due_at, passed_of, asked_of, found_of, survey_grounds, surveyed_of, survey_of, table_to}
 use Rattle.reader.proofs.Bytes.{number_small}
 use Rattle.reader.proofs.Lines.{line_at, more-some, more-none}

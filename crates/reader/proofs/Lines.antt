@@ -7,7 +7,8 @@ use Rattle.timing.specs.declared.Refusal.{Refusal}
 use Rattle.timing.specs.declared.Refusal.TheVariants.{LineNotDue}
 use Rattle.timing.specs.Field.{Bytes}
 use Rattle.timing.specs.Text.{parts, whole, line_of, behind, line_start, more, line_grounds}
-use Rattle.lists.specs.Laws.Cut.{end_at, end-most, end-over}
+use Rattle.lists.specs.Laws.Cut.{end_at}
+use Rattle.lists.proofs.Laws.Cut.{end-most, end-over}
 use Rattle.reader.specs.Cut.{start_of, over, next_at, hit-at, miss-at, start-next, part-is, ended, not-ended}
 
 -- ---- the place of the next line

@@ -5,8 +5,10 @@ use native.Mathlib.Decide.{ℕ_discrete, dec_le}
 use lib.Seq.{take-append_seam, get_or-append_seam}
 use Rattle.lists.specs.Choice.{pick, first_met}
 use Rattle.lists.specs.Parts.{every, each, onto, split, same}
-use Rattle.lists.specs.Laws.Cut.{reach, end_at, one_on, same-exactly}
-use Rattle.lists.specs.Laws.Member.{All, all_app, all_map, all_of, in-every}
+use Rattle.lists.specs.Laws.Cut.{reach, end_at}
+use Rattle.lists.proofs.Laws.Cut.{one_on, same-exactly}
+use Rattle.lists.specs.Laws.Member.{All}
+use Rattle.lists.proofs.Laws.Member.{all_app, all_map, all_of, in-every}
 use Rattle.timing.specs.Kinds.{has_times}
 use Rattle.timing.specs.Field.{Bytes, pin_word, digit, well_formed, value_from, value, number_or_0, kind_of, letter}
 use Rattle.timing.specs.Line.{field_of, field_count, is_number, number_in, other_word, four_numbers, line_kind, pin_line, four_line, four_of, pin_of}

@@ -7,8 +7,9 @@ use Rattle.timing.specs.Line.{four_of, pin_of}
 use Rattle.timing.specs.Text.{line_of, due_of}
 use Rattle.lists.specs.Laws.Cut.{end_at}
 use Rattle.reader.specs.Cut.{start_of, next_at, start-zero}
-use Rattle.lists.specs.Laws.Write.{sets, length-sets, sets-join, gather-more}
-use Rattle.lists.specs.Laws.Cases.{by-test}
+use Rattle.lists.specs.Laws.Write.{sets}
+use Rattle.lists.proofs.Laws.Write.{length-sets, sets-join, gather-more}
+use Rattle.lists.proofs.Laws.Cases.{by-test}
 use Rattle.reader.specs.Scan.{line_from, due_in}
 use Rattle.reader.specs.Answer.{due_numbers, table_to}
 use Rattle.reader.proofs.Lines.{line_at, next-line-at}

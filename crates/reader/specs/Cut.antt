@@ -5,7 +5,8 @@ use Rattle.std.proofs.Common.{sym, ap, ◌∙◌, not-suc-le-zero, sub-one, arit
 use Rattle.std.proofs.lemmas.Bool.{eqb-false}
 use Rattle.lists.specs.Choice.{pick}
 use Rattle.lists.specs.Parts.{split, onto}
-use Rattle.lists.specs.Laws.Cut.{reach, end_at, split-some, one_on}
+use Rattle.lists.specs.Laws.Cut.{reach, end_at}
+use Rattle.lists.proofs.Laws.Cut.{split-some, one_on}
 
 -- where part m begins, counted from 0; the end where there are fewer
 unfoldable pub start_of : ℕ → List ℕ → ℕ → ℕ

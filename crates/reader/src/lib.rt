@@ -1,4 +1,6 @@
 // The reader: from a text to a table of numbers, with the refusals 1 to 5; line n of a text; the fields of a line and what they say.
+#![tactic(auto)]
+
 ghost use Rattle.std.specs.Prelude.{◌≡◌, ◌+◌, ◌-◌, ◌*◌, ◌<◌, ◌≤◌, true, length, slice_index};
 ghost use Rattle.lists.specs.Choice.{first_met};
 ghost use Rattle.lists.specs.Parts.{below, gather, same};
@@ -370,7 +372,7 @@ pub fn next_at(text: &[u8], at: usize) -> usize
 }
 
 // The reader over a text: the text itself and its place.
-#[derive(Drop)]
+#[derive(Clone, Copy)]
 pub struct Reader<'a> {
     pub text: &'a [u8],
     pub at: usize,
@@ -425,7 +427,7 @@ fn line_end(text: &[u8], at: usize, next: usize) -> usize
 // ---- plain lines: a line due without a fault, taken by one scan of its bytes; any other goes field by field, which says what is wrong with it
 
 // A number and the place behind the byte that ends it; place 0 where no such number stands.
-#[derive(Drop)]
+#[derive(Clone, Copy)]
 struct Taken {
     next: usize,
     value: u32,
@@ -460,7 +462,7 @@ fn number_at(s: &[u8], a: usize, c: u8) -> Taken
 }
 
 // The numbers of a line due, three of a pin, and the place of the next line; place 0 where the line is not plain.
-#[derive(Drop)]
+#[derive(Clone, Copy)]
 struct Due {
     next: usize,
     numbers: [u32; 4],
@@ -578,7 +580,7 @@ fn design_at(text: &[u8], next: usize) -> Checked
 }
 
 // The place behind a line due or several, or why one of them is refused.
-#[derive(Drop)]
+#[derive(Clone, Copy)]
 enum Passed {
     Behind(usize),
     Refused(Refusal),
@@ -629,7 +631,7 @@ fn due_lines(text: &[u8], from: usize, p: usize, a: usize, n: usize) -> Passed
 }
 
 // What is asked, or why the `ask` line is refused.
-#[derive(Drop)]
+#[derive(Clone, Copy)]
 enum Asked {
     Of { mode: u32, k: usize },
     Refused(Refusal),
@@ -663,7 +665,7 @@ fn ask_at(text: &[u8], at: usize, n: usize) -> Asked
 }
 
 // What the first pass finds: the sizes and what is asked, or why the text is refused.
-#[derive(Drop)]
+#[derive(Clone, Copy)]
 enum Surveyed {
     Fine {
         pins: usize,
