@@ -1,4 +1,6 @@
 // The work area, part by part: where each part begins, and how a word of it is read. Each part begins where the one before it ends.
+#![tactic(auto)]
+
 ghost use Rattle.std.specs.Prelude.{◌≡◌, ◌<◌};
 ghost use Rattle.area.specs.Area.{packed, weight_in, from_in, arc_in};
 
