@@ -1,4 +1,6 @@
 // The walks of one test, gone through backwards from its data pin in the order of the tie rule. Arcs that lead to no value below a bound are passed over.
+#![tactic(auto)]
+
 ghost use Rattle.std.specs.Prelude.{◌≡◌, true, ℕ, ◌+◌, ◌*◌, ◌≤◌, ◌<◌, length};
 ghost use Rattle.area.specs.Area.{none, turns_end};
 ghost use Rattle.walker.specs.Rest.{turn, pin_in, place_in};
@@ -9,7 +11,7 @@ ghost use Rattle.walker.specs.Cursors.{end_at, begin_at, Ready, Step, Next};
 
 // A place in the walks of a test: how many turns were taken, the pin that they came to, the place of the next arc into it, and what the turns weigh. If a walk
 // was found, its value; NONE if not. Whether there is more to go through before the next. And the least bound of an arc that was passed over.
-#[derive(Drop)]
+#[derive(Clone, Copy)]
 pub struct Cursor {
     pub depth: usize,
     pub pin: usize,

@@ -1,17 +1,15 @@
 -- Steps one after another.
 -- Assumes nothing.
-use Rattle.std.specs.Prelude.{◌≡◌, refl, true, false, List, [], ◌++◌, ℕ, ◌+◌, ◌≤◌, ◌<◌, length, get_or}
+use Rattle.std.specs.Prelude.{◌≡◌, refl, true, List, [], ◌++◌, ℕ, ◌+◌, ◌≤◌, ◌<◌, length, get_or}
 use Rattle.std.proofs.Common.{sym, ◌∙◌, true≢false, append_assoc, arith}
-use Rattle.lists.specs.Laws.Member.{all_app, all_map}
+use Rattle.lists.proofs.Laws.Member.{all_app, all_map}
 use Rattle.timing.specs.Structure.{Structure, pins}
-use Rattle.timing.specs.Paths.{walks}
 use Rattle.timing.specs.Value.{value_of}
 use Rattle.area.specs.Area.{none, plan, first_at, firsts_at, turns_end, turns_at}
 use Rattle.area.specs.Laws.Kept.{kept-none, kept-join}
 use Rattle.area.specs.Laws.Plan.{first-at}
 use Rattle.walker.specs.Rest.{turns, came}
 use Rattle.walker.specs.Cursors.{Planned, Lower, least_at, begin_at, On, Ready, coming, found, Gone}
-use Rattle.walker.specs.Laws.Rest.{rest_all}
 use Rattle.walker.specs.Laws.Steps.{cursor, found_none}
 use Rattle.walker.specs.declared.Cursor.{Cursor}
 
@@ -66,7 +64,7 @@ gone-more under u v w a b c e G H s weight seed O =
 -- before the first walk
 
 module _ (s : Structure) (weight seed : ℕ → ℕ) (w : List ℕ) (v : ℕ) (P : Planned s weight seed (plan w)) (h : v < pins s) where
-  first-is : get_or w (firsts_at + v) 0 ≡ first_at (plan w) v
+  pub first-is : get_or w (firsts_at + v) 0 ≡ first_at (plan w) v
   first-is = sym (first-at w v (omega (arith, P.ok.few-pins)))
 
   pub begin-on : Lower s weight seed (least_at w) → turns_end ≤ length w → On s weight seed w (begin_at w v)
@@ -86,8 +84,3 @@ module _ (s : Structure) (weight seed : ℕ → ℕ) (w : List ℕ) (v : ℕ) (P
         turned = tt;
         sum = refl;
       }
-
-  -- all walks from the pin are to come
-  pub begin-all : coming s w (begin_at w v) ≡ walks s v
-  unfolding coming turns
-  begin-all = rw first-is (rest_all s weight seed (plan w) P v h)

@@ -1,20 +1,22 @@
 -- The bound of an arc: what the turns weigh, the arc, and the number of the pin that it leaves are at most the value of each walk over it.
 -- Assumes nothing.
-use Rattle.std.specs.Prelude.{◌≡◌, ℕ, ◌+◌, ◌-◌, ◌≤◌, ◌<◌}
+use Rattle.std.specs.Prelude.{◌≡◌, ℕ, ◌+◌, ◌≤◌, ◌<◌}
 use Rattle.std.proofs.Common.{ap, ◌∙◌}
 use Rattle.std.proofs.Math.Bool.{false}
 use mathlib.Core.List.{List, [], ◌∷◌}
 use native.Mathlib.Omega.{arith}
 use Rattle.lists.specs.Choice.{pick}
 use Rattle.lists.specs.Parts.{each}
-use Rattle.lists.specs.Laws.Cases.{by-test}
-use Rattle.lists.specs.Laws.Member.{In, All, of-all, in_one, in-each}
+use Rattle.lists.proofs.Laws.Cases.{by-test}
+use Rattle.lists.specs.Laws.Member.{In, All}
+use Rattle.lists.proofs.Laws.Member.{of-all, in_one, in-each}
 use Rattle.timing.specs.Structure.{Structure, pins, arcs, leaves}
 use Rattle.timing.specs.Paths.{is_start, walks}
 use Rattle.timing.specs.Value.{value_of}
 use Rattle.timing.specs.Laws.Steps.{walks_over}
-use Rattle.timing.specs.Laws.Walked.{Walk, walks-sound}
-use Rattle.timing.specs.Laws.Least.{value-start, value-over}
+use Rattle.timing.specs.Laws.Walked.{Walk}
+use Rattle.timing.proofs.Laws.Walked.{walks-sound}
+use Rattle.timing.proofs.Laws.Least.{value-start, value-over}
 use Rattle.area.specs.Area.{word_at, arc_in}
 use Rattle.walker.specs.Rest.{pin_in, place_in, onto, came}
 use Rattle.walker.specs.Cursors.{Planned, Lower, Turned}
@@ -67,7 +69,7 @@ module _ (s : Structure) (weight seed : ℕ → ℕ) where
         of-all _ (each (onto ts m) (walks_over s a))
         (λ u i.
         let k = in-each (onto ts m) u (walks_over s a) i in
-        rw k.2 (one k.0 (lower-over P.ok.from-in f L a l k.0 k.1) (front a k.0 k.1)))
+        rw k.2 (one k.0 (lower-over P.ok.from_in f L a l k.0 k.1) (front a k.0 k.1)))
       where
         front : (a : ℕ) (w : List ℕ) → In w (walks_over s a) → (b : ℕ) × (u : List ℕ) × (w ≡ b ∷ u)
         front a w i = unfold pick in

@@ -4,10 +4,10 @@ use Rattle.std.specs.Prelude.{◌≡◌, refl, List, ℕ, ◌+◌, ◌≤◌, �
 use Rattle.std.proofs.Common.{sym, ◌∙◌, arith, length-set, get_or-set_same, get_or-set_other}
 use Rattle.std.proofs.Math.Decide.{ℕ_discrete}
 use Rattle.std.proofs.lemmas.List.{take-set-le}
-use Rattle.lists.specs.Laws.Pieces.{place_of}
+use Rattle.lists.proofs.Laws.Pieces.{place_of}
 use Rattle.timing.specs.Structure.{Structure, pins, leaves, enters}
 use Rattle.timing.specs.Clock.{into}
-use Rattle.timing.specs.Laws.Routes.{into-into}
+use Rattle.timing.proofs.Laws.Routes.{into-into}
 use Rattle.area.specs.Area.{none, plan, word_at, first_at, seed_at, from_in, weight_in, arc_in, leasts_at, clocks_at, arcs_at, firsts_at, seeds_at}
 use Rattle.area.specs.Laws.Kept.{kept-none, kept_set}
 use Rattle.area.specs.Laws.Plan.{word-at, first-at, seed-at, plan-same, plan-kept}
@@ -124,7 +124,7 @@ leasts-all w₀ w p v h S = record { beside = S.beside; lower = λ s weight seed
               let i = first_at m u + b.0 in
               let o : none ≤ seed_at m u = rw (P.by-seeds.other u q e) (omega arith) in
               let x = P.by-arcs.word u b.0 q b.1 in
-              let fr : leaves s a < pins s = P.ok.from-in a k in
+              let fr : leaves s a < pins s = P.ok.from_in a k in
               let y : from_in (word_at m i) ≡ leaves s a = rw (x, b.2) (omega (arith, P.few-arcs, P.ok.few-pins)) in
               let z : weight_in (word_at m i) ≡ weight a = rw (x, b.2) (omega (arith, P.few-arcs, P.ok.few-pins)) in
               rw (y, z) at (((S.are u (omega arith)).other o).under i (omega arith) (omega (arith, P.by-arcs.ends u q, b.1)));

@@ -1,6 +1,6 @@
 -- A walk goes to its slot, arc by arc.
 -- Assumes nothing.
-use Rattle.std.specs.Prelude.{◌≡◌, ◌⊎◌, length, set}
+use Rattle.std.specs.Prelude.{◌≡◌, length, set}
 use Rattle.std.proofs.Math.Path.{refl, ap, ap₂}
 use Rattle.std.proofs.Common.{sym, ◌∙◌, inr, ⊎_elim, length-set, get_or-set_same, get_or-set_other}
 use mathlib.Core.List.{List, [], ◌∷◌}

@@ -1,8 +1,8 @@
--- The steps of the cursor, over the numbers as the code reads them.
+-- The steps of the cursor, over the numbers as the code reads them. Those over an arc are in proofs/Laws, since they rest on the order in which the arcs are taken.
 -- Assumes nothing.
 use Rattle.std.specs.Prelude.{◌≡◌, Bool, true, false, length, set}
-use Rattle.std.proofs.Math.Path.{refl, sym, ap}
-use Rattle.std.proofs.Common.{ap₂, ◌∙◌, true≢false, lt-ltb, le-ltb, get_or-set_same, get_or-set_other}
+use Rattle.std.proofs.Math.Path.{refl, ap}
+use Rattle.std.proofs.Common.{ap₂, true≢false, lt-ltb, le-ltb, get_or-set_same, get_or-set_other}
 use Rattle.std.proofs.lemmas.Bool.{false≢true}
 use mathlib.Core.List.{List, [], ◌∷◌}
 use Prim.Native.Nat.{ℕ, zero, suc, ◌+◌, ◌-◌, ◌*◌, ◌≤◌, ◌<◌}
@@ -11,22 +11,16 @@ use native.Mathlib.Omega.{arith}
 use Rattle.std.proofs.Math.ListN.{get_or, length-set}
 use Rattle.std.proofs.lemmas.List.{take-set-le}
 use Rattle.lists.specs.Choice.{pick}
-use Rattle.lists.specs.Parts.{each}
-use Rattle.lists.specs.Laws.Cases.{by-test}
-use Rattle.lists.specs.Laws.Member.{all_map}
+use Rattle.lists.proofs.Laws.Cases.{by-test}
 use Rattle.timing.specs.Structure.{Structure, pins, leaves, enters}
 use Rattle.timing.specs.Paths.{is_start}
-use Rattle.timing.specs.Value.{value_of}
-use Rattle.timing.specs.Laws.Steps.{walks_over}
-use Rattle.timing.specs.Laws.Least.{value-start}
 use Rattle.area.specs.Area.{none, plan, word_at, first_at, seed_at, weight_in, from_in, arc_in, arcs_at, firsts_at, seeds_at, leasts_at, turns_at, turns_end}
-use Rattle.area.specs.Laws.Kept.{kept-none, kept_set}
+use Rattle.area.specs.Laws.Kept.{kept-none}
 use Rattle.area.specs.Laws.Plan.{word-at, first-at, seed-at, plan-kept}
-use Rattle.walker.specs.Rest.{turn, pin_in, place_in, turns, onto, came}
-use Rattle.walker.specs.Cursors.{Planned, Lower, least_at, Turned, On, Ready, coming, walk_at, walk_of, found, reach, Went, Step}
-use Rattle.walker.specs.Laws.Rest.{Read, read, rest_more, rest-start, rest_back, rest-none, rest-deeper}
-use Rattle.walker.specs.Laws.Least.{value-onto, bound-over}
-use Rattle.walker.specs.Laws.Size.{size-past, size-deeper, size_back}
+use Rattle.walker.specs.Rest.{turn, pin_in, place_in, turns, came}
+use Rattle.walker.specs.Cursors.{Planned, Lower, least_at, Turned, On, Ready, coming, walk_of, found, reach, Went, Step}
+use Rattle.walker.specs.Laws.Rest.{Read, read, rest_back, rest-none}
+use Rattle.walker.specs.Laws.Size.{size_back}
 use Rattle.walker.specs.declared.Cursor.{Cursor}
 
 abbrev pub cursor : ℕ → ℕ → ℕ → ℕ → ℕ → Bool → ℕ → Cursor
@@ -45,17 +39,17 @@ turns-set zero e x w h = refl
 turns-set (suc d) e x w h =
     ap₂ (λ (a : ℕ) (l : List ℕ). a ∷ l) (get_or-set_other w (turns_at + e) (turns_at + d) x 0 (λ q. omega arith)) (turns-set d e x w (omega arith))
 
-turns_more : (d x : ℕ) (w : List ℕ) → turns_at + d < length w → turns (suc d) (set w (turns_at + d) x) ≡ x ∷ turns d w
+pub turns_more : (d x : ℕ) (w : List ℕ) → turns_at + d < length w → turns (suc d) (set w (turns_at + d) x) ≡ x ∷ turns d w
 unfolding turns
 turns_more d x w h = ap₂ (λ (a : ℕ) (l : List ℕ). a ∷ l) (get_or-set_same w (turns_at + d) x 0 h) (turns-set d d x w (omega arith))
 
 -- ---- what a turn leaves of the work area
 
-plan-turn : (w : List ℕ) (d x : ℕ) → turns_end ≤ length w → plan (set w (turns_at + d) x) ≡ plan w
+pub plan-turn : (w : List ℕ) (d x : ℕ) → turns_end ≤ length w → plan (set w (turns_at + d) x) ≡ plan w
 plan-turn w d x h =
     plan-kept (set w (turns_at + d) x) w (omega (arith, length-set w (turns_at + d) x)) (omega arith) (take-set-le leasts_at w (turns_at + d) x (omega arith))
 
-lower-turn : (s : Structure) (weight seed : ℕ → ℕ) (m w : List ℕ) (d x : ℕ) → Planned s weight seed m → Lower s weight seed (least_at w)
+pub lower-turn : (s : Structure) (weight seed : ℕ → ℕ) (m w : List ℕ) (d x : ℕ) → Planned s weight seed m → Lower s weight seed (least_at w)
     → Lower s weight seed (least_at (set w (turns_at + d) x))
 lower-turn s weight seed m w d x P L =
     let same : (v : ℕ) → v < pins s → least_at (set w (turns_at + d) x) v ≡ least_at w v =
@@ -63,7 +57,7 @@ lower-turn s weight seed m w d x P L =
     record {
       most = λ v h. rw (same v h) (L.most v h);
       start = λ v h e. rw (same v h) (L.start v h e);
-      over = λ a h e. rw (same (enters s a) (P.ok.to_in a h), same (leaves s a) (P.ok.from-in a h)) (L.over a h e);
+      over = λ a h e. rw (same (enters s a) (P.ok.to_in a h), same (leaves s a) (P.ok.from_in a h)) (L.over a h e);
     }
 
 -- ---- a cursor that found nothing, and one that did
@@ -103,7 +97,7 @@ module _ (s : Structure) (weight seed : ℕ → ℕ) (w : List ℕ) (c : Cursor)
   end_low = omega (arith, end-at, O.planned.by-arcs.fits c.pin O.placed.pin)
 
   module _ (h : c.place < get_or w (firsts_at + c.pin + 1) 0) where
-    inside : c.place < first_at (plan w) (c.pin + 1)
+    pub inside : c.place < first_at (plan w) (c.pin + 1)
     inside = rw end-at h
 
     pub here : Read s weight seed (plan w) O.planned c.pin c.place
@@ -175,202 +169,6 @@ back w c =
 
 abbrev pub ended : Cursor → Cursor
 ended c = cursor c.depth c.pin c.place c.sum none false c.out
-
--- ---- an arc that leads to nothing below the bound is passed over
-
-module _ (under : ℕ) (w : List ℕ) (c : Cursor) (h : c.place < get_or w (firsts_at + c.pin + 1) 0) where
-  module _ (o : ℕ) (g : under ≤ bound_here w c) (oc : o ≤ c.out) (ob : o ≤ bound_here w c) where
-    went-past : (s : Structure) (weight seed : ℕ → ℕ) → On s weight seed w c → Went s weight seed under w c w (past c o)
-    unfolding coming
-    went-past s weight seed O =
-        let m = plan w in
-        let ts = turns c.depth w in
-        let a = arc_in (word_at m c.place) in
-        let r = here s weight seed w c O h in
-        let e = word-is s weight seed w c O h in
-        let z : c.place + 1 ≡ suc c.place = add-one c.place in
-        let x : weight_in (word_at m c.place) ≡ weight_in (word_here w c) = rw e refl in
-        let y : least_at w (leaves s a) ≡ get_or w (leasts_at + from_here w c) 0 = rw (← r.from, e) refl in
-        record {
-          on = record {
-            planned = O.planned;
-            lower = O.lower;
-            long = O.long;
-            placed = record {
-              pin = O.placed.pin;
-              low = omega (arith, O.placed.low);
-              high = omega (arith, inside s weight seed w c O h);
-              deep = O.placed.deep;
-              light = O.placed.light;
-            };
-            turned = O.turned;
-            sum = O.sum;
-          };
-          kept = kept-none turns_at turns_end w;
-          falls = oc;
-          passed = record {
-            cut = each (onto ts m) (walks_over s a);
-            is = rw (found_none w (past c o) refl, z) (rest_more s m ts c.pin c.place (inside s weight seed w c O h));
-            out = all_map (λ u. bound_here w c ≤ value_of s weight seed u) (λ u. (under ≤ value_of s weight seed u) × (o ≤ value_of s weight seed u))
-                (λ u n. (omega arith, omega arith)) (each (onto ts m) (walks_over s a))
-                (bound-over s weight seed m O.planned (least_at w) O.lower ts O.turned a r.arc (bound_here w c) (omega (arith, O.sum, r.weighs)));
-            value = rw (found_none w (past c o) refl) tt;
-            done = λ b. absurd (true≢false b);
-            fresh = λ b. refl;
-            taken = λ l. absurd (omega arith);
-          };
-        }
-
-    pub step_past : Ready w c → Step under w c w (past c o)
-    unfolding reach pick
-    step_past R =
-        record {
-          went = went-past;
-          less = λ b.
-              let z : c.place + 1 ≡ suc c.place = add-one c.place in
-              rw (b, z) (omega (arith, size-past (plan w) (turns c.depth w) (256 - c.depth) c.pin c.place (inside R.of R.weight R.seed w c R.on h)));
-        }
-
--- ---- an arc that leaves a start completes a walk
-
-module _ (under : ℕ) (w : List ℕ) (c : Cursor) (h : c.place < get_or w (firsts_at + c.pin + 1) 0) (few : under ≤ none) (g : bound_here w c < under)
-    (k : get_or w (seeds_at + from_here w c) 0 < none) where
-  went-caught : (s : Structure) (weight seed : ℕ → ℕ) → On s weight seed w c → Went s weight seed under w c w (caught w c)
-  unfolding coming walk_at
-  went-caught s weight seed O =
-      let m = plan w in
-      let ts = turns c.depth w in
-      let a = arc_in (word_at m c.place) in
-      let r = here s weight seed w c O h in
-      let e = word-is s weight seed w c O h in
-      let z : c.place + 1 ≡ suc c.place = add-one c.place in
-      let y : suc c.place - 1 ≡ c.place = omega arith in
-      let st = starts s weight seed w c O h k in
-      let fd : found w (caught w c) ≡ onto ts m (a ∷ []) ∷ [] = found-one w (caught w c) (omega arith) ∙ rw (z, y) refl in
-      let x : weight_in (word_at m c.place) ≡ weight_in (word_here w c) = rw e refl in
-      let q : least_at w (leaves s a) ≡ get_or w (leasts_at + from_here w c) 0 = rw (← r.from, e) refl in
-      let b : least_at w (leaves s a) ≡ seed (leaves s a) = O.lower.start (leaves s a) (rw r.from at r.from-in) st in
-      let val : bound_here w c ≡ value_of s weight seed (onto ts m (a ∷ [])) =
-      omega (arith, O.sum, r.weighs) ∙ sym (value-onto s weight seed m O.planned ts O.turned a [] ∙ ap (λ (n : ℕ). came ts m + n) (value-start s weight seed a)) in
-      record {
-        on = record {
-          planned = O.planned;
-          lower = O.lower;
-          long = O.long;
-          placed = record {
-            pin = O.placed.pin;
-            low = omega (arith, O.placed.low);
-            high = omega (arith, inside s weight seed w c O h);
-            deep = O.placed.deep;
-            light = O.placed.light;
-          };
-          turned = O.turned;
-          sum = O.sum;
-        };
-        kept = kept-none turns_at turns_end w;
-        falls = omega arith;
-        passed = record {
-          cut = [];
-          is = rw (fd, z) (rest-start s m ts c.pin c.place (inside s weight seed w c O h) st);
-          out = tt;
-          value = rw fd ((val, g), tt);
-          done = λ b n. absurd (omega arith);
-          fresh = λ b. absurd (false≢true b);
-          taken = λ l. omega (arith, O.placed.low);
-        };
-      }
-
-  pub step-caught : Ready w c → Step under w c w (caught w c)
-  unfolding reach pick
-  step-caught R = record { went = went-caught; less = λ b. rw b (omega arith) }
-
--- ---- any other arc leads deeper
-
-module _ (under : ℕ) (w : List ℕ) (c : Cursor) (h : c.place < get_or w (firsts_at + c.pin + 1) 0) (k : none ≤ get_or w (seeds_at + from_here w c) 0)
-    (word : word_here w c < 18446744073709551616) where
-  went-deeper : (s : Structure) (weight seed : ℕ → ℕ) → On s weight seed w c → Went s weight seed under w c (turned w c) (deeper w c)
-  unfolding coming came
-  went-deeper s weight seed O =
-      let m = plan w in
-      let x = turn c.pin c.place in
-      let v = turned w c in
-      let ts = turns c.depth w in
-      let a = arc_in (word_at m c.place) in
-      let r = here s weight seed w c O h in
-      let e = word-is s weight seed w c O h in
-      let low = depth_low s weight seed w c O in
-      let n = length-turns c.depth w in
-      let u = from_here w c in
-      let f : from_in (word_at m c.place) ≡ u = rw e refl in
-      let ui : u < pins s = from-in s weight seed w c O h in
-      let ul : u < 256 = omega (arith, O.planned.ok.few-pins) in
-      let falls : O.planned.ok.level u < O.planned.ok.level c.pin = rw f at r.falls in
-      let i : pin_in x ≡ c.pin = omega (arith, r.at) in
-      let j : place_in x ≡ c.place = omega (arith, r.at) in
-      let st = goes_on s weight seed w c O h k in
-      let pl : plan v ≡ m = plan-turn w c.depth x O.long in
-      let d : c.depth + 1 ≡ suc c.depth = add-one c.depth in
-      let same : turns (c.depth + 1) v ≡ x ∷ ts = ap (λ (n : ℕ). turns n v) d ∙ turns_more c.depth x w (omega (arith, O.long)) in
-      let first : get_or v (firsts_at + u) 0 ≡ first_at m u = sym (first-at v u (omega arith)) ∙ ap (λ (l : List ℕ). first_at l u) pl in
-      let wt : weight_in (word_at m c.place) ≡ weight_in (word_here w c) = rw e refl in
-      let wx : weight_in (word_at m (place_in x)) ≡ weight_in (word_here w c) = rw (j, e) refl in
-      record {
-        on = record {
-          planned = rw pl O.planned;
-          lower = lower-turn s weight seed m w c.depth x O.planned O.lower;
-          long = omega (arith, O.long, length-set w (turns_at + c.depth) x);
-          placed = rw (pl, same, first)
-              (record {
-                pin = ui;
-                low = omega arith;
-                high = omega (arith, O.planned.by-arcs.ends u ui);
-                deep = omega (arith, O.placed.deep);
-                light = omega (arith, O.placed.light);
-              });
-          turned = rw (pl, same)
-              (rw (i, j) O.placed, rw (i, j) (inside s weight seed w c O h), O.turned);
-          sum = rw (pl, same) (omega (arith, O.sum));
-        };
-        kept = kept_set turns_at turns_end w w (turns_at + c.depth) x (kept-none turns_at turns_end w) (omega arith) (omega arith);
-        falls = omega arith;
-        passed = record {
-          cut = [];
-          is = rw (found_none v (deeper w c) refl, pl, same, first) (rw f at (rest-deeper s weight seed m O.planned ts x c.pin c.place (inside s weight seed w c O h) i j r.from r.from-in st));
-          out = tt;
-          value = rw (found_none v (deeper w c) refl) tt;
-          done = λ b. absurd (true≢false b);
-          fresh = λ b. refl;
-          taken = λ l. absurd (omega arith);
-        };
-      }
-
-  pub step-deeper : Ready w c → Step under w c (turned w c) (deeper w c)
-  unfolding reach pick
-  step-deeper R =
-      record {
-        went = went-deeper;
-        less = λ b.
-            let O = R.on in
-            let s = R.of in
-            let m = plan w in
-            let x = turn c.pin c.place in
-            let v = turned w c in
-            let u = from_here w c in
-            let r = here s R.weight R.seed w c O h in
-            let e = word-is s R.weight R.seed w c O h in
-            let low = depth_low s R.weight R.seed w c O in
-            let f : from_in (word_at m c.place) ≡ u = rw e refl in
-            let ui : u < pins s = from-in s R.weight R.seed w c O h in
-            let i : pin_in x ≡ c.pin = omega (arith, r.at) in
-            let j : place_in x ≡ c.place = omega (arith, r.at) in
-            let pl : plan v ≡ m = plan-turn w c.depth x O.long in
-            let d : c.depth + 1 ≡ suc c.depth = add-one c.depth in
-            let same : turns (c.depth + 1) v ≡ x ∷ turns c.depth w = ap (λ (n : ℕ). turns n v) d ∙ turns_more c.depth x w (omega (arith, O.long)) in
-            let first : get_or v (firsts_at + u) 0 ≡ first_at m u = sym (first-at v u (omega (arith, O.planned.ok.few-pins))) ∙ ap (λ (l : List ℕ). first_at l u) pl in
-            let q : 256 - c.depth ≡ suc (256 - (c.depth + 1)) = omega arith in
-            rw (b, pl, same, first, q)
-            (omega (arith, rw f at (size-deeper m (turns c.depth w) (256 - (c.depth + 1)) x c.pin c.place (inside s R.weight R.seed w c O h) i j)));
-      }
 
 -- ---- no arc is left: back to the turn before
 
