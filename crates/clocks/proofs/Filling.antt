@@ -11,12 +11,12 @@ use lib.Seq.{get_or-set_same, get_or-set_other}
 use Rattle.timing.specs.Limits.{work_length}
 use Rattle.timing.specs.Kinds.{B, K}
 use Rattle.timing.specs.Table.{Table, Edge, early, late, pin_count, arc_count, arc_to}
-use Rattle.timing.specs.Structure.{pins, kind, enters, structure, times}
+use Rattle.timing.specs.Structure.{kind, enters, structure, times}
 use Rattle.timing.specs.Clock.{into, climb, clock_arrival}
 use Rattle.timing.specs.Check.{table_fault}
-use Rattle.timing.specs.Laws.Common.{only-in}
-use Rattle.timing.specs.Laws.Columns.{pins-is, arcs-is, enters_is}
-use Rattle.timing.specs.Laws.Accepted.{accepted}
+use Rattle.timing.proofs.Laws.Common.{only-in}
+use Rattle.timing.proofs.Laws.Columns.{pins-is, arcs-is, enters_is}
+use Rattle.timing.proofs.Laws.Accepted.{accepted}
 use Rattle.area.specs.Area.{Kept, arrivals_at, clocks_at, parents_at, depths_at, drivers_at, turns_at}
 use Rattle.clocks.specs.Clocked.{Ready, ClockPin, Parented, ClockedTo, Clocked, driver_for}
 use Rattle.clocks.specs.Turn.{Next, Arrives}

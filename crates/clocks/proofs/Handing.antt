@@ -22,10 +22,10 @@ use Rattle.timing.specs.Structure.{kind, structure, times}
 use Rattle.timing.specs.Clock.{route, root, common, pin_credit}
 use Rattle.timing.specs.Slack.{Mode}
 use Rattle.timing.specs.Check.{table_fault}
-use Rattle.timing.specs.Laws.Routes.{any_here, here-any, root-only, root-route}
-use Rattle.timing.specs.Laws.Common.{common-here}
-use Rattle.timing.specs.Laws.Columns.{kind-is}
-use Rattle.timing.specs.Laws.Accepted.{accepted}
+use Rattle.timing.proofs.Laws.Routes.{any_here, here-any, root-only, root-route}
+use Rattle.timing.proofs.Laws.Common.{common-here}
+use Rattle.timing.proofs.Laws.Columns.{kind-is}
+use Rattle.timing.proofs.Laws.Accepted.{accepted}
 use Rattle.area.specs.Area.{Kept, seeds_at, credits_at, clocks_at, drivers_at, bases_at}
 use Rattle.area.specs.Area as area
 use Rattle.clocks.specs.Clocked.{ClockPin, Clocked, Based, Seeded, driver_for, base_for, seed_for, seed_with}

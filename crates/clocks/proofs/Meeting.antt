@@ -8,14 +8,15 @@ use native.Mathlib.Omega.{arith}
 use lib.ListN.{length, get_or}
 use Rattle.timing.specs.Kinds.{R, B, K}
 use Rattle.timing.specs.Table.{Table, arc_from}
-use Rattle.timing.specs.Structure.{pins, kind, structure}
-use Rattle.timing.specs.Clock.{climb, root, common}
+use Rattle.timing.specs.Structure.{kind, structure}
+use Rattle.timing.specs.Clock.{climb, common}
 use Rattle.timing.specs.Check.{table_fault}
 use Rattle.timing.specs.Laws.Sound.{Sound}
-use Rattle.timing.specs.Laws.Routes.{root-only}
-use Rattle.timing.specs.Laws.Common.{depth, common-same, common-deeper, common-other}
-use Rattle.timing.specs.Laws.Columns.{kind-is}
-use Rattle.timing.specs.Laws.Accepted.{accepted}
+use Rattle.timing.proofs.Laws.Routes.{root-only}
+use Rattle.timing.specs.Laws.Common.{depth}
+use Rattle.timing.proofs.Laws.Common.{common-same, common-deeper, common-other}
+use Rattle.timing.proofs.Laws.Columns.{kind-is}
+use Rattle.timing.proofs.Laws.Accepted.{accepted}
 use Rattle.area.specs.Area.{parents_at, depths_at}
 use Rattle.clocks.specs.Clocked.{ClockPin, Parented, Clocked, Common}
 use Rattle.clocks.specs.Small.{pin-place}

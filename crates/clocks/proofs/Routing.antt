@@ -21,9 +21,9 @@ use Rattle.timing.specs.Table.{Table, pin_count}
 use Rattle.timing.specs.Structure.{kind, structure, times}
 use Rattle.timing.specs.Clock.{into, route, common, pin_credit}
 use Rattle.timing.specs.Check.{table_fault}
-use Rattle.timing.specs.Laws.Routes.{any_here, here-any, route-top, route-step, root-only}
-use Rattle.timing.specs.Laws.Common.{root_none, common-up}
-use Rattle.timing.specs.Laws.Accepted.{accepted}
+use Rattle.timing.proofs.Laws.Routes.{any_here, here-any, route-top, route-step, root-only}
+use Rattle.timing.proofs.Laws.Common.{root_none, common-up}
+use Rattle.timing.proofs.Laws.Accepted.{accepted}
 use Rattle.area.specs.Area.{Kept, credits_at, clocks_at, drivers_at}
 use Rattle.area.specs.Area as area
 use Rattle.clocks.specs.Clocked.{Ready, ClockPin, Parented, Clocked, credit_in, driver_for}

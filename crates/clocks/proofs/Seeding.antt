@@ -14,8 +14,8 @@ use Rattle.timing.specs.Clock.{common, clock_arrival, pin_credit}
 use Rattle.timing.specs.Slack.{Mode, for_setup, for_hold, start_arrival}
 use Rattle.timing.specs.Rows.{mode_of}
 use Rattle.timing.specs.Value.{credit_from, raise, lower}
-use Rattle.timing.specs.Laws.Columns.{tests-is, kind-is, clock-is, data_is}
-use Rattle.timing.specs.Laws.Accepted.{accepted}
+use Rattle.timing.proofs.Laws.Columns.{tests-is, kind-is, clock-is, data_is}
+use Rattle.timing.proofs.Laws.Accepted.{accepted}
 use Rattle.area.specs.Area.{arrivals_at}
 use Rattle.clocks.specs.Clocked.{Clocked}
 use Rattle.clocks.specs.Small.{few-pins, arrival-most}

@@ -10,7 +10,7 @@ use Rattle.timing.specs.Kinds.{R, B, K}
 use Rattle.timing.specs.Table.{Table, Edge, pin_count, pin_kind, arc_from, arc_time}
 use Rattle.timing.specs.Structure.{structure, times}
 use Rattle.timing.specs.Clock.{climb, clock_arrival}
-use Rattle.timing.specs.Laws.Columns.{kind-is}
+use Rattle.timing.proofs.Laws.Columns.{kind-is}
 use Rattle.area.specs.Area.{arrivals_at, parents_at, depths_at}
 use Rattle.area.specs.Area as area
 use Rattle.clocks.specs.Clocked.{ClockPin, driver_for}

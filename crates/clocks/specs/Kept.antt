@@ -7,8 +7,8 @@ use Rattle.timing.specs.Table.{Table, Edge, early, late, pin_count}
 use Rattle.timing.specs.Structure.{enters, structure}
 use Rattle.timing.specs.Slack.{Mode}
 use Rattle.timing.specs.Check.{table_fault}
-use Rattle.timing.specs.Laws.Columns.{pins-is}
-use Rattle.timing.specs.Laws.Accepted.{accepted}
+use Rattle.timing.proofs.Laws.Columns.{pins-is}
+use Rattle.timing.proofs.Laws.Accepted.{accepted}
 use Rattle.area.specs.Area.{Kept, arrivals_at, clocks_at, parents_at, depths_at, drivers_at, bases_at, turns_at}
 use Rattle.clocks.specs.Clocked.{Ready, Parented, ClockedTo, Clocked, Based}
 

@@ -15,8 +15,8 @@ use Rattle.timing.specs.Clock.{pin_credit}
 use Rattle.timing.specs.Slack.{Mode, for_setup, for_hold}
 use Rattle.timing.specs.Value.{credit_from, seed_of}
 use Rattle.timing.specs.Check.{table_fault}
-use Rattle.timing.specs.Laws.Columns.{pins-is, tests-is, kind-is, clock-is, data_is}
-use Rattle.timing.specs.Laws.Accepted.{accepted}
+use Rattle.timing.proofs.Laws.Columns.{pins-is, tests-is, kind-is, clock-is, data_is}
+use Rattle.timing.proofs.Laws.Accepted.{accepted}
 use Rattle.area.specs.Area as area
 use Rattle.clocks.specs.Clocked.{ClockPin, Clocked, Spans, credit_in, base_of, base_for, seed_for, seed_with}
 use Rattle.clocks.specs.Small.{few-pins, arrival-order, start-most, seed-small}

@@ -11,7 +11,7 @@ use Rattle.std.proofs.Math.Option.{none}
 use native.Mathlib.Omega.{arith}
 use Rattle.std.proofs.Math.Dec.{eqb}
 use Rattle.lists.specs.Choice.{pick}
-use Rattle.lists.specs.Laws.Sum.{sum_bound}
+use Rattle.lists.proofs.Laws.Sum.{sum_bound}
 use Rattle.timing.specs.Limits.{most_time}
 use Rattle.timing.specs.Kinds.{K}
 use Rattle.timing.specs.Table.{Table, Edge, early, late, pin_count, arc_count, pin_time}
@@ -20,10 +20,10 @@ use Rattle.timing.specs.Clock.{climb, root, common, clock_arrival, pin_credit}
 use Rattle.timing.specs.Slack.{Mode, for_setup, for_hold, start_arrival}
 use Rattle.timing.specs.Value.{credit_from, seed_of}
 use Rattle.timing.specs.Check.{table_fault}
-use Rattle.timing.specs.Laws.Routes.{climb-arcs, climb-split, length-climb, root_is, common-on}
-use Rattle.timing.specs.Laws.Ranged.{clock-order}
-use Rattle.timing.specs.Laws.Columns.{pins-is, arcs-is}
-use Rattle.timing.specs.Laws.Accepted.{accepted}
+use Rattle.timing.proofs.Laws.Routes.{climb-arcs, climb-split, length-climb, root_is, common-on}
+use Rattle.timing.proofs.Laws.Ranged.{clock-order}
+use Rattle.timing.proofs.Laws.Columns.{pins-is, arcs-is}
+use Rattle.timing.proofs.Laws.Accepted.{accepted}
 use Rattle.clocks.specs.Clocked.{ClockPin}
 
 module _ (t : Table) (h : table_fault t ≡ none) where

@@ -14,12 +14,12 @@ use Rattle.timing.specs.Table.{Table, Edge, pin_count, arc_count, pin_kind, pin_
 use Rattle.timing.specs.Structure.{arcs, kind, leaves, enters, structure, times}
 use Rattle.timing.specs.Clock.{into, climb, root, clock_arrival}
 use Rattle.timing.specs.Check.{table_fault}
-use Rattle.timing.specs.Laws.Kinds.{drive-clock}
-use Rattle.timing.specs.Laws.Routes.{into-cases, climb-top, climb-step, root-only}
-use Rattle.timing.specs.Laws.Common.{only-in, root_none}
-use Rattle.timing.specs.Laws.Ranged.{clock-root, clock-step}
-use Rattle.timing.specs.Laws.Columns.{pins-is, arcs-is, kind-is, leaves-is, enters_is}
-use Rattle.timing.specs.Laws.Accepted.{accepted, accepted-level}
+use Rattle.timing.proofs.Laws.Kinds.{drive-clock}
+use Rattle.timing.proofs.Laws.Routes.{into-cases, climb-top, climb-step, root-only}
+use Rattle.timing.proofs.Laws.Common.{only-in, root_none}
+use Rattle.timing.proofs.Laws.Ranged.{clock-root, clock-step}
+use Rattle.timing.proofs.Laws.Columns.{pins-is, arcs-is, kind-is, leaves-is, enters_is}
+use Rattle.timing.proofs.Laws.Accepted.{accepted, accepted-level}
 use Rattle.area.specs.Area.{parents_at}
 use Rattle.area.specs.Area as area
 use Rattle.clocks.specs.Clocked.{ClockPin, Parented, driver_for}

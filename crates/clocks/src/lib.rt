@@ -1,5 +1,7 @@
 // The clock side of a checked table, in a lent work area: arrivals, parents, depths and drivers of the clock tree; the common pin and its credit; what each
 // start brings to a test. All times are in picoseconds.
+#![tactic(auto)]
+
 ghost use Rattle.std.specs.Prelude.{◌≡◌, ◌+◌, ◌<◌, length, get_or, set};
 ghost use Rattle.timing.specs.Table.{pin_count, arc_from};
 ghost use Rattle.timing.specs.Structure.{structure, times};
@@ -71,7 +73,7 @@ fn parent(table: &[u32], work: &[u64], p: usize) -> usize
 }
 
 // When the clock comes to a pin, over how many arcs, and from which pin.
-#[derive(Drop)]
+#[derive(Clone, Copy)]
 struct Clocking {
     early: u64,
     late: u64,
@@ -292,6 +294,7 @@ fn credit_down(work: &[u64], p: usize, driver: usize) -> u64
 }
 
 // The seed of a base and a credit: NONE where there is no base.
+#[tactic(auto, unfolding(crate::specs::Clocked::seed_with, lists::specs::Choice::pick))]
 fn seed_with(base: u64, credit: u64) -> u64
     requires { credit < none }
     ensures { result ≡ seed_with base credit }
