@@ -1,5 +1,7 @@
 // The work area prepared for a table that passed its check, and laid for a test: the sorted arcs and the clock side for all tests, the seeds and the least values
 // of one. The total, and a bound for each test that costs one pass for all of them.
+#![tactic(auto)]
+
 ghost use Rattle.std.specs.Prelude.{◌≡◌, ◌≤◌, ◌<◌, length};
 ghost use Rattle.std.proofs.Math.IntN.{sub_ℕ};
 ghost use Rattle.lists.specs.Parts.{capped};

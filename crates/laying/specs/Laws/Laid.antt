@@ -1,11 +1,11 @@
 -- Laying a test: the seeds are those of its clock pin, the least values are made from them, and what stands beside them stays.
 -- Assumes nothing.
-use Rattle.std.specs.Prelude.{◌≡◌, List, ℕ, ◌<◌, length}
+use Rattle.std.specs.Prelude.{◌≡◌, List, ℕ, ◌<◌}
 use Rattle.std.proofs.Common.{sym, ◌∙◌, arith}
 use Rattle.timing.specs.Table.{Table, pin_count, test_count}
 use Rattle.timing.specs.Structure.{structure}
-use Rattle.timing.specs.Laws.Accepted.{accepted}
-use Rattle.timing.specs.Laws.Columns.{pins-is}
+use Rattle.timing.proofs.Laws.Accepted.{accepted}
+use Rattle.timing.proofs.Laws.Columns.{pins-is}
 use Rattle.area.specs.Area.{Kept, plan, seeds_at, clocks_at}
 use Rattle.arcs.specs.Laid as sorted
 use Rattle.arcs.specs.Sorting.{weighing}

@@ -1,10 +1,10 @@
 -- What each step leaves of the work area: the arcs and the clock side stay, the seeds are laid.
 -- Assumes nothing.
-use Rattle.std.specs.Prelude.{◌≡◌, List, length, get_or, take, drop}
+use Rattle.std.specs.Prelude.{◌≡◌, List, length, get_or, drop}
 use Rattle.std.proofs.Common.{sym, ap, ◌∙◌, arith, length-drop, ext_get_or}
 use Rattle.std.proofs.Math.Path.{subst}
 use Rattle.std.proofs.Math.Option.{none}
-use Prim.Native.Nat.{ℕ, ◌+◌, ◌-◌, ◌*◌, ◌≤◌, ◌<◌, min}
+use Prim.Native.Nat.{ℕ, ◌+◌, ◌-◌, ◌≤◌, ◌<◌, min}
 use Rattle.std.proofs.Math.ListN.{length-take}
 use Rattle.lists.specs.Choice.{pick}
 use Rattle.timing.specs.Table.{Table, pin_count, test_count, test_clock}
@@ -13,9 +13,9 @@ use Rattle.timing.specs.Paths.{is_start}
 use Rattle.timing.specs.Value.{weight_of, seed_of, value_of}
 use Rattle.timing.specs.Rows.{mode_of}
 use Rattle.timing.specs.Check.{table_fault}
-use Rattle.timing.specs.Laws.Accepted.{accepted, accepted-level}
-use Rattle.timing.specs.Laws.Columns.{pins-is, arcs-is, tests-is, clock-is}
-use Rattle.timing.specs.Laws.Valued.{value-most}
+use Rattle.timing.proofs.Laws.Accepted.{accepted, accepted-level}
+use Rattle.timing.proofs.Laws.Columns.{pins-is, arcs-is, tests-is, clock-is}
+use Rattle.timing.proofs.Laws.Valued.{value-most}
 use Rattle.clocks.specs.Clocked.{ClockPin, Clocked, Based, Seeded, seed_for}
 use Rattle.clocks.specs.Kept.{clocked-same, clocked-behind, based-same}
 use Rattle.clocks.specs.Known.{test-clock}

@@ -6,9 +6,9 @@ use Rattle.timing.specs.Table.{Table}
 use Rattle.timing.specs.Structure.{tests, structure, times}
 use Rattle.timing.specs.Value.{raise, lower}
 use Rattle.timing.specs.Rows.{mode_of}
-use Rattle.timing.specs.Laws.Accepted.{accepted, accepted-level}
-use Rattle.timing.specs.Laws.Columns.{tests-is}
-use Rattle.timing.specs.Laws.Valued.{raise-most, lower-most}
+use Rattle.timing.proofs.Laws.Accepted.{accepted, accepted-level}
+use Rattle.timing.proofs.Laws.Columns.{tests-is}
+use Rattle.timing.proofs.Laws.Valued.{raise-most, lower-most}
 use Rattle.clocks.specs.Clocked.{Tested}
 use Rattle.laying.specs.Standing.{level}
 

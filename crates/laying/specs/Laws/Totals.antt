@@ -5,17 +5,18 @@ use Rattle.std.proofs.Common.{sym, ◌∙◌, arith, get_or-take, get_or-drop}
 use Rattle.std.proofs.Math.Path.{ap}
 use Rattle.std.proofs.Math.Option.{none}
 use Prim.Native.Nat.{ℕ, ◌+◌, ◌-◌, ◌≤◌, ◌<◌, min}
-use Rattle.lists.specs.Laws.Member.{length-each}
-use Rattle.lists.specs.Laws.Count.{count_to, count_to-none, count_to-gather}
+use Rattle.lists.proofs.Laws.Member.{length-each}
+use Rattle.lists.specs.Laws.Count.{count_to}
+use Rattle.lists.proofs.Laws.Count.{count_to-none, count_to-gather}
 use Rattle.timing.specs.Limits.{most_total}
 use Rattle.timing.specs.Table.{Table, pin_count, test_count, test_data}
 use Rattle.timing.specs.Structure.{tests, data_pin, structure}
 use Rattle.timing.specs.Paths.{is_start, walks, test_paths, paths, path}
 use Rattle.timing.specs.Rows.{total}
 use Rattle.timing.specs.Check.{table_fault}
-use Rattle.timing.specs.Laws.Accepted.{accepted}
-use Rattle.timing.specs.Laws.Columns.{pins-is, tests-is, data_is}
-use Rattle.timing.specs.Laws.Counted.{total-capped}
+use Rattle.timing.proofs.Laws.Accepted.{accepted}
+use Rattle.timing.proofs.Laws.Columns.{pins-is, tests-is, data_is}
+use Rattle.timing.proofs.Laws.Counted.{total-capped}
 use Rattle.clocks.specs.Known.{test-data}
 use Rattle.area.specs.Area.{counts_at, clocks_at}
 use Rattle.arcs.specs.Counting.{Counted}
