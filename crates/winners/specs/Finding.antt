@@ -12,7 +12,7 @@ use Rattle.lists.specs.Laws.Falling.{kept}
 use Rattle.timing.specs.Limits.{most_k}
 use Rattle.timing.specs.Table.{Table, test_count}
 use Rattle.timing.specs.Structure.{structure, times}
-use Rattle.timing.specs.Paths.{Path, test_paths, paths}
+use Rattle.timing.specs.Paths.{Path, test_paths}
 use Rattle.timing.specs.Rows.{mode_of, first_paths}
 use Rattle.timing.specs.declared.Candidate.{Candidate}
 use Rattle.laying.specs.Bounds.{Bounds, AllBounds}

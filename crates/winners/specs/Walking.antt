@@ -1,22 +1,22 @@
 -- The walks of one test enter the list.
 -- Assumes nothing.
-use Rattle.std.specs.Prelude.{◌≡◌, ◌⊎◌, false, List, [], ◌++◌, ℕ, ◌+◌, ◌-◌, ◌≤◌, ◌<◌, ℤ, get_or}
+use Rattle.std.specs.Prelude.{◌≡◌, ◌⊎◌, false, List, [], ◌++◌, ℕ, ◌-◌, ◌≤◌, ◌<◌, ℤ, get_or}
 use Rattle.lists.specs.Parts.{those, each}
 use Rattle.lists.specs.Rank.{by}
 use Rattle.lists.specs.Laws.Member.{In, All}
 use Rattle.lists.specs.Laws.Integer.{Within, Less}
 use Rattle.lists.specs.Laws.Top.{rank_top}
-use Rattle.timing.specs.Table.{Table, test_count}
+use Rattle.timing.specs.Table.{Table}
 use Rattle.timing.specs.Structure.{structure, data_pin}
 use Rattle.timing.specs.Paths.{Path, path, walks, test_paths}
 use Rattle.timing.specs.Value.{value_of}
 use Rattle.timing.specs.declared.Candidate.{Candidate}
 use Rattle.area.specs.Area.{none, plan, first_at}
 use Rattle.arcs.specs.Sorting.{weighing}
-use Rattle.laying.specs.Standing.{test_seed, Walks}
+use Rattle.laying.specs.Standing.{test_seed}
 use Rattle.laying.specs.Bounds.{record_of, slack_of}
 use Rattle.walker.specs.declared.Cursor.{Cursor}
-use Rattle.walker.specs.Cursors.{Lower, least_at, On, found, coming, Went}
+use Rattle.walker.specs.Cursors.{On, found, coming, Went}
 use Rattle.clocks.specs.Clocked.{Tested}
 use Rattle.walker.specs.Slots.{Keeps}
 use Rattle.walker.specs.Slots as kept_in

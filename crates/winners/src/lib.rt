@@ -1,4 +1,6 @@
 // The first k paths of all tests, found walk by walk: the walks of a test that can come among them enter a ranked list.
+#![tactic(auto)]
+
 ghost use Rattle.std.specs.Prelude.{◌≡◌, ℕ, ◌+◌, ◌≤◌, ◌<◌, true, false, pos};
 ghost use Rattle.std.specs.Int.Signed.{lt_z};
 ghost use Rattle.lists.specs.Choice.{pick};
@@ -19,7 +21,7 @@ use walker::Cursor;
 
 // The ranked list of the best so far, how many of its places are counted, how many records were entered, as far as that is told, and the slot of each record's
 // walk; those behind the count are free.
-#[derive(Drop)]
+#[derive(Clone, Copy)]
 pub struct Best {
     pub list: [Candidate; Design::K],
     pub count: usize,
@@ -58,7 +60,7 @@ fn nearer(a: i64, b: i64) -> i64
 }
 
 // The list after the walks of a test, and the least value that was passed over.
-#[derive(Drop)]
+#[derive(Clone, Copy)]
 pub struct Walked {
     pub best: Best,
     pub out: u64,
@@ -168,6 +170,7 @@ fn counted(answer: timing::Entered) -> usize
 }
 
 // c enters the list, behind the records that stay, and the slot behind them with it.
+#[inline(never)]
 fn entered(best: Best, k: usize, c: Candidate) -> Best
     requires { Sized k best.list best.count }
     ensures { Entered k c best.list best.count best.serial best.slots result.list result.count result.serial result.slots }
@@ -326,7 +329,7 @@ fn slack_at(table: &[u32], mode: u32, work: &[u64], j: usize, value: u64) -> i64
 }
 
 // The list, and the least slack that was passed over.
-#[derive(Drop)]
+#[derive(Clone, Copy)]
 pub struct Found {
     pub best: Best,
     pub out: i64,
@@ -334,7 +337,7 @@ pub struct Found {
 
 // The hints of a round: the tests up to `last` take paths below `high`, those behind it paths below `low`. They are one apart at the most: `low` drops the ties of
 // the k-th path that come later than wanted.
-#[derive(Drop)]
+#[derive(Clone, Copy)]
 pub struct Hints {
     pub high: i64,
     pub low: i64,
@@ -507,6 +510,7 @@ fn by_rounds(
 }
 
 // The first k paths of all tests: the list tells them, and their walks stand in their slots. Any hint leads to them.
+#[inline(never)]
 pub fn first(table: &[u32], mode: u32, work: &mut [u64], k: usize) -> Best
     requires { Prepared table.now mode work.old × (0 < k) × (k ≤ most_k) }
     ensures { Won table.now mode k work.new result.list result.count result.slots }

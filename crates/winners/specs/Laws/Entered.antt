@@ -11,10 +11,11 @@ use Rattle.std.specs.Int.Signed.{lt_z}
 use Rattle.lists.specs.Choice.{pick}
 use Rattle.lists.specs.Parts.{last}
 use Rattle.lists.specs.Rank.{enter, by}
-use Rattle.lists.specs.Laws.Cases.{by-test}
+use Rattle.lists.proofs.Laws.Cases.{by-test}
 use Rattle.lists.specs.Laws.Integer.{Within, Less}
-use Rattle.lists.specs.Laws.Ranking.{sorted-enter, enter-cases, enter-less, enter-more, length-enter, Both, both-length, both-take}
-use Rattle.lists.specs.Laws.Pieces.{pairs-take}
+use Rattle.lists.proofs.Laws.Ranking.{sorted-enter, enter-cases, enter-less, enter-more, length-enter, both-length, both-take}
+use Rattle.lists.specs.Laws.Ranking.{Both}
+use Rattle.lists.proofs.Laws.Pieces.{pairs-take}
 use Rattle.timing.specs.Paths.{Path}
 use Rattle.timing.specs.Ranked.{greater, new_count, list_after}
 use Rattle.timing.specs.declared.Candidate.{Candidate}

@@ -13,30 +13,30 @@ use Rattle.std.proofs.Math.Decide.{ℕ_discrete}
 use Rattle.lists.specs.Parts.{those, each, gather}
 use Rattle.lists.specs.Parts as parts
 use Rattle.lists.specs.Rank.{by}
-use Rattle.lists.specs.Laws.Member.{In, All, Pairs, of-all, in_either, in-each, those-cong, those-all, pairs-all, pairs-map, pairs-gather, pairs_below}
-use Rattle.lists.specs.Laws.Join.{gather-more, those-join}
+use Rattle.lists.specs.Laws.Member.{In, All, Pairs}
+use Rattle.lists.proofs.Laws.Member.{of-all, in_either, in-each, those-cong, those-all, pairs-all, pairs-map, pairs-gather, pairs_below}
+use Rattle.lists.proofs.Laws.Join.{gather-more, those-join}
 use Rattle.lists.specs.Laws.Ranking.{Both}
-use Rattle.lists.specs.Laws.Ranks.{top-append}
+use Rattle.lists.proofs.Laws.Ranks.{top-append}
 use Rattle.lists.specs.Laws.Top.{rank_top}
-use Rattle.timing.specs.Table.{Table, pin_count, test_count}
+use Rattle.timing.specs.Table.{Table, test_count}
 use Rattle.timing.specs.Structure.{structure, times, tests, data_pin}
 use Rattle.timing.specs.Paths.{Path, path, walks, test_paths, paths}
 use Rattle.timing.specs.Slack.{ranked}
 use Rattle.timing.specs.Rows.{mode_of, first_paths}
-use Rattle.timing.specs.Laws.Accepted.{accepted}
-use Rattle.timing.specs.Laws.Columns.{pins-is, tests-is}
+use Rattle.timing.proofs.Laws.Accepted.{accepted}
+use Rattle.timing.proofs.Laws.Columns.{tests-is}
 use Rattle.timing.specs.declared.Candidate.{Candidate}
-use Rattle.area.specs.Area as clock_area
 use Rattle.laying.specs.Laws.Prepared.{prepared-same}
 use Rattle.area.specs.Area.{plan, counts_at}
 use Rattle.area.specs.Laws.Plan.{plan-at}
 use Rattle.arcs.specs.Sorting.{weighing}
 use Rattle.laying.specs.Standing.{level, test_seed, Prepared, Lay}
-use Rattle.walker.specs.Cursors.{Planned}
-use Rattle.walker.specs.Leasts.{Laid, AllLeasts}
 use Rattle.walker.specs.Slots.{Stands, Still}
-use Rattle.lists.specs.Laws.Under.{below, Out, top-cut, top-is}
-use Rattle.lists.specs.Laws.Falling.{kept, Near, Falls, top-falling}
+use Rattle.lists.specs.Laws.Under.{below, Out}
+use Rattle.lists.proofs.Laws.Under.{top-cut, top-is}
+use Rattle.lists.specs.Laws.Falling.{kept, Near, Falls}
+use Rattle.lists.proofs.Laws.Falling.{top-falling}
 use Rattle.winners.specs.Held.{slack_in, Told, Limit}
 use Rattle.winners.specs.Stored.{no_path, Stored}
 use Rattle.winners.specs.Walking.{Added}
@@ -44,9 +44,10 @@ use Rattle.laying.specs.Bounds.{slack_of}
 use Rattle.winners.specs.Laws.Walked.{less-below, slack-is, value_low, slack-valued, out_of}
 use Rattle.timing.specs.Value.{value_of, raise, lower}
 use Rattle.lists.specs.Choice.{pick}
-use Rattle.lists.specs.Laws.Cases.{by-test}
-use Rattle.lists.specs.Laws.Integer.{Within, Less, less-within, not-less-within, sub_within, le-within}
-use Rattle.timing.specs.Laws.Bounds.{slack-bounds}
+use Rattle.lists.proofs.Laws.Cases.{by-test}
+use Rattle.lists.specs.Laws.Integer.{Within, Less}
+use Rattle.lists.proofs.Laws.Integer.{less-within, not-less-within, sub_within, le-within}
+use Rattle.timing.proofs.Laws.Bounds.{slack-bounds}
 use Rattle.std.proofs.Math.Dec.{ltb}
 use Rattle.std.specs.Int.Signed.{lt_z}
 use borrow.Author.Tests.{lt-ltb, ltb-true}

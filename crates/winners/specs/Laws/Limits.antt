@@ -4,8 +4,9 @@ use Rattle.std.specs.Prelude.{◌≡◌, List, ℕ, ◌+◌, ◌-◌, ◌≤◌,
 use Rattle.std.proofs.Common.{inl, inr, arith}
 use Rattle.std.specs.Int.Signed.{lt_z}
 use Rattle.lists.specs.Choice.{pick}
-use Rattle.lists.specs.Laws.Cases.{by-test}
-use Rattle.lists.specs.Laws.Integer.{up, down, less-within, not-less-within, sub_is}
+use Rattle.lists.proofs.Laws.Cases.{by-test}
+use Rattle.lists.specs.Laws.Integer.{up, down}
+use Rattle.lists.proofs.Laws.Integer.{less-within, not-less-within, sub_is}
 use Rattle.timing.specs.declared.Candidate.{Candidate}
 use Rattle.winners.specs.Held.{nobody, Limit, Reach}
 

@@ -11,7 +11,7 @@ use Rattle.std.proofs.Math.ListN.{get_or}
 use Rattle.std.specs.Int.Signed.{lt_z}
 use Rattle.lists.specs.Choice.{pick}
 use Rattle.lists.specs.Rank.{enter, by}
-use Rattle.lists.specs.Laws.Ranking.{both_at, both-length, length-enter}
+use Rattle.lists.proofs.Laws.Ranking.{both_at, both-length, length-enter}
 use Rattle.timing.specs.Paths.{Path}
 use Rattle.timing.specs.Ranked.{greater}
 use Rattle.timing.specs.declared.Candidate.{Candidate}

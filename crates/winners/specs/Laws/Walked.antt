@@ -12,11 +12,14 @@ use Rattle.std.proofs.Math.IntN.{sub_ℕ}
 use Rattle.std.specs.Int.Signed.{lt_z}
 use Rattle.lists.specs.Parts.{those, each, last}
 use Rattle.lists.specs.Rank.{enter, by}
-use Rattle.lists.specs.Laws.Cases.{by-test}
-use Rattle.lists.specs.Laws.Member.{In, All, all_of, of-all, all_map, all_app, in-each, in_left, in_right}
-use Rattle.lists.specs.Laws.Join.{each-join}
-use Rattle.lists.specs.Laws.Integer.{Within, Less, less-within, not-less-within, less-not}
-use Rattle.lists.specs.Laws.Ranking.{Both, both_at, both-length}
+use Rattle.lists.proofs.Laws.Cases.{by-test}
+use Rattle.lists.specs.Laws.Member.{In, All}
+use Rattle.lists.proofs.Laws.Member.{all_of, of-all, all_map, all_app, in-each, in_left, in_right}
+use Rattle.lists.proofs.Laws.Join.{each-join}
+use Rattle.lists.specs.Laws.Integer.{Within, Less}
+use Rattle.lists.proofs.Laws.Integer.{less-within, not-less-within, less-not}
+use Rattle.lists.specs.Laws.Ranking.{Both}
+use Rattle.lists.proofs.Laws.Ranking.{both_at, both-length}
 use Rattle.lists.specs.Laws.Top.{rank_top}
 use Rattle.timing.specs.Table.{Table, test_count, test_data}
 use Rattle.timing.specs.Structure.{structure, times, pins, tests, clock_pin, data_pin}
@@ -25,9 +28,9 @@ use Rattle.timing.specs.Slack.{slack}
 use Rattle.timing.specs.Value.{value_of, value, raise, lower}
 use Rattle.timing.specs.Rows.{mode_of}
 use Rattle.timing.specs.Check.{table_fault}
-use Rattle.timing.specs.Laws.Accepted.{accepted, accepted-level}
-use Rattle.timing.specs.Laws.Columns.{tests-is, data_is}
-use Rattle.timing.specs.Laws.Valued.{valued}
+use Rattle.timing.proofs.Laws.Accepted.{accepted, accepted-level}
+use Rattle.timing.proofs.Laws.Columns.{tests-is, data_is}
+use Rattle.timing.proofs.Laws.Valued.{valued}
 use Rattle.timing.specs.declared.Candidate.{Candidate}
 use Rattle.timing.specs.Ranked.{list_after}
 use Rattle.area.specs.Area.{none, plan}
@@ -44,9 +47,11 @@ use Rattle.walker.specs.Cursors.{Planned, begin_at, walk_of, found, coming, Kept
 use Rattle.walker.specs.Laws.Steps.{found-one, found-not}
 use Rattle.walker.specs.Slots.{Keeps, Still}
 use Rattle.walker.specs.Slots as kept_in
-use Rattle.walker.specs.Laws.Gone.{begin-on, begin-all}
+use Rattle.walker.specs.Laws.Gone.{begin-on}
+use Rattle.walker.proofs.Laws.Gone.{begin-all}
 use Rattle.walker.specs.Laws.Slots.{stands-turns, coming-aside, on-aside, still-slot}
-use Rattle.lists.specs.Laws.Under.{below, Out, top-cut, top-enter, last-above}
+use Rattle.lists.specs.Laws.Under.{Out}
+use Rattle.lists.proofs.Laws.Under.{top-cut, top-enter, last-above}
 use Rattle.winners.specs.Held.{slack_in, Told, Holds, kept, nobody, Sized, Limit, Reach}
 use Rattle.winners.specs.Walking.{At, Under, Nexts, paths_over, Gone, Going, Added}
 use Rattle.winners.specs.Stored.{no_path, Shelf, Stored, Entered}

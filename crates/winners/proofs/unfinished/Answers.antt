@@ -1,10 +1,10 @@
 -- `winners::unfinished` meets its contract.
 -- Assumes nothing.
-use borrow.Author.Rules.{rules}
+-- one of the three tests failed
 use mathlib.Core.Path.{◌≡◌, refl, sym}
 use mathlib.Core.Logic.{inl, inr}
 use mathlib.Core.Bool.{Bool, true, false, ◌&&◌, true≢false}
-use Prim.Native.Nat.{ℕ, ◌≤◌}
+use Prim.Native.Nat.{ℕ}
 use native.Mathlib.Omega.{arith}
 use borrow.Author.Tests.{ltb-true, ltb-false}
 use lib.Dec.{ltb}
@@ -12,12 +12,10 @@ use lib.IntN.{ℤ, pos}
 use lib.Signed.{lt_z}
 use mir.Syntax.{w64}
 use mir.ValLaws.{to_z-of_z}
-use Rattle.lists.specs.Laws.Integer.{not-less-within}
+use Rattle.lists.proofs.Laws.Integer.{not-less-within}
 use Rattle.winners.specs.Finding.{Finished}
-use Rattle.winners.proofs.unfinished.Statement.{statement}
-use Rattle.winners.proofs.unfinished.Tie as tie
+use Rattle.winners.proofs.unfinished.Goals as goal
 
--- one of the three tests failed
 finished : (rounds count k : ℕ) (out : ℤ) (a b c : Bool) → ltb 0 rounds ≡ a → ltb count k ≡ b → lt_z out (pos 257000001) ≡ c → (a && b) && c ≡ false → Finished rounds count k out
 finished rounds count k out true true true e f g h = absurd (true≢false h)
 finished rounds count k out true true false e f g h = inr (inr (omega (arith, not-less-within out (pos 257000001) g)))
@@ -28,15 +26,8 @@ first-true : (a b c : Bool) → (a && b) && c ≡ true → a ≡ true
 first-true true b c h = refl
 first-true false b c h = h
 
-less-requires : tie.Need-less-requires
-less-requires c κs = search rules
-
-returns : tie.Need-returns
-returns c =
-    let s = c.before in (
-      finished _ _ _ s.args.out _ _ _ refl refl (sym (rw (to_z-of_z w64 s.args.out s.ranges.out) at c.less.ensures)),
-      (λ h. ltb-true 0 s.args.rounds (first-true _ _ _ h)),
-    )
-
-pub unfinished-spec : {M : Type 1} → statement M
-unfinished-spec = tie.close (tie.spec less-requires returns)
+pub returns : goal.returns
+returns c = (
+  finished _ _ _ c.args.out _ _ _ refl refl (sym (rw (to_z-of_z w64 c.args.out c.ranges.out) at c.less.ensures)),
+  (λ h. ltb-true 0 c.args.rounds (first-true _ _ _ h)),
+)
