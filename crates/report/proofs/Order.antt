@@ -9,8 +9,8 @@ use native.Mathlib.Omega.{arith}
 use borrow.Author.Tests.{ltb-false}
 use lib.Dec.{eqb, ltb}
 use Rattle.lists.specs.Choice.{Ground, ground, first_met}
-use Rattle.lists.specs.Laws.Cases.{or-none}
-use Rattle.lists.specs.Laws.Chosen.{met-append, met-front, met-none, ground-here, ground-on}
+use Rattle.lists.proofs.Laws.Cases.{or-none}
+use Rattle.lists.proofs.Laws.Chosen.{met-append, met-front, met-none, ground-here, ground-on}
 use Rattle.timing.specs.Limits.{most_k}
 use Rattle.timing.specs.Table.{Table, pin_count}
 use Rattle.timing.specs.Check.{table_grounds, table_fault}

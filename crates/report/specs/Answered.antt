@@ -11,11 +11,12 @@ use Rattle.std.proofs.lemmas.List.{length-replicate}
 use Rattle.std.proofs.Math.IntN.{ℤ}
 use Rattle.lists.specs.Choice.{ground}
 use Rattle.lists.specs.Parts.{below, each, gather, written}
-use Rattle.lists.specs.Laws.Cases.{or-none}
-use Rattle.lists.specs.Laws.Member.{in-below, in_take, each-cong, length-each}
-use Rattle.lists.specs.Laws.Pieces.{in_place, each-each, each-place}
-use Rattle.lists.specs.Laws.Ranking.{both_at}
-use Rattle.lists.specs.Laws.Unmet.{Unmet, unmet-none, unmet-first, unmet-rest, unmet-left, unmet-right}
+use Rattle.lists.proofs.Laws.Cases.{or-none}
+use Rattle.lists.proofs.Laws.Member.{in-below, in_take, each-cong, length-each}
+use Rattle.lists.proofs.Laws.Pieces.{in_place, each-each, each-place}
+use Rattle.lists.proofs.Laws.Ranking.{both_at}
+use Rattle.lists.specs.Laws.Unmet.{Unmet}
+use Rattle.lists.proofs.Laws.Unmet.{unmet-none, unmet-first, unmet-rest, unmet-left, unmet-right}
 use Rattle.timing.specs.Limits.{most_k, work_length}
 use Rattle.timing.specs.Table.{Table, pin_count, test_count}
 use Rattle.timing.specs.Structure.{structure, times}
@@ -29,7 +30,7 @@ use Rattle.timing.specs.declared.Answer.TheVariants.{Given, Refused}
 use Rattle.timing.specs.declared.Candidate.{Candidate}
 use Rattle.timing.specs.declared.Refusal.{Refusal}
 use Rattle.timing.specs.declared.Refusal.TheVariants.{ModeOrK, RowRoom}
-use Rattle.timing.specs.Laws.Order.{ranked-paths}
+use Rattle.timing.proofs.Laws.Order.{ranked-paths}
 use Rattle.winners.specs.Held.{slack_in, Told, nobody}
 use Rattle.winners.specs.Stored.{no_path}
 use Rattle.winners.specs.Finding.{Won}

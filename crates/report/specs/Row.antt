@@ -7,8 +7,8 @@ use Rattle.std.proofs.Math.Decide.{dec_lt}
 use Rattle.std.proofs.lemmas.List.{length-replicate, length-reverse, get_or-replicate, get_or_at}
 use Rattle.std.proofs.Math.ListN.{get_or-append}
 use Rattle.lists.specs.Parts.{each}
-use Rattle.lists.specs.Laws.Member.{length-each}
-use Rattle.lists.specs.Laws.Join.{each-join}
+use Rattle.lists.proofs.Laws.Member.{length-each}
+use Rattle.lists.proofs.Laws.Join.{each-join}
 
 -- 2 ^ 63: what is below it fits a signed number of 64 bits
 abbrev pub signed : ℕ

@@ -2,7 +2,7 @@
 --
 -- A record has the slack and the test of a path, its slot the walk. The walk's last arc leaves the start, start and clock pin give the credit: that is the row.
 -- Assumes nothing.
-use Rattle.std.specs.Prelude.{◌≡◌, refl, List, [], ◌∷◌, ℕ, suc, ◌+◌, ◌-◌, ◌*◌, ◌≤◌, ◌<◌, length, take, drop, ℤ}
+use Rattle.std.specs.Prelude.{◌≡◌, refl, List, [], ◌∷◌, ℕ, suc, ◌+◌, ◌-◌, ◌≤◌, ◌<◌, length, take, drop, ℤ}
 use Rattle.std.proofs.Math.Path.{sym, ap}
 use Rattle.std.proofs.Common.{◌∙◌, not-suc-le-zero, get_or-take, get_or-drop, ext_get_or}
 use Rattle.std.proofs.Math.Option.{none}
@@ -10,7 +10,7 @@ use native.Mathlib.Omega.{arith}
 use Rattle.std.proofs.Math.ListN.{get_or}
 use Rattle.lists.specs.Parts.{last}
 use Rattle.lists.specs.Laws.Member.{In}
-use Rattle.lists.specs.Laws.Pieces.{in_place}
+use Rattle.lists.proofs.Laws.Pieces.{in_place}
 use Rattle.timing.specs.Limits.{most_k, work_length}
 use Rattle.timing.specs.Table.{Table, pin_count, test_count, arc_from, test_clock}
 use Rattle.timing.specs.Structure.{Structure, data_pin, structure, times}
@@ -21,10 +21,12 @@ use Rattle.timing.specs.Rows.{row_length, row}
 use Rattle.timing.specs.Check.{table_fault}
 use Rattle.timing.specs.declared.Candidate.{Candidate}
 use Rattle.timing.specs.Laws.Sound.{Sound}
-use Rattle.timing.specs.Laws.Accepted.{accepted}
-use Rattle.timing.specs.Laws.Columns.{pins-is, arcs-is, tests-is, leaves-is, clock-is}
-use Rattle.timing.specs.Laws.Walked.{Walk, last-arc, walk-rises, walk-arcs}
-use Rattle.timing.specs.Laws.Listed.{IsPath, in-paths}
+use Rattle.timing.proofs.Laws.Accepted.{accepted}
+use Rattle.timing.proofs.Laws.Columns.{pins-is, arcs-is, tests-is, leaves-is, clock-is}
+use Rattle.timing.specs.Laws.Walked.{Walk}
+use Rattle.timing.proofs.Laws.Walked.{last-arc, walk-rises, walk-arcs}
+use Rattle.timing.specs.Laws.Listed.{IsPath}
+use Rattle.timing.proofs.Laws.Listed.{in-paths}
 use Rattle.area.specs.Area.{slot_at}
 use Rattle.clocks.specs.Clocked.{Clocked, Asks, Credited}
 use Rattle.clocks.specs.Known.{test-clock}

@@ -6,7 +6,7 @@ use Rattle.std.proofs.Math.Path.{ap}
 use borrow.Rule.Slice.PartMut.{put_mid}
 use Rattle.std.proofs.Math.ListN.{drop}
 use Rattle.lists.specs.Parts.{below, each, gather, written}
-use Rattle.lists.specs.Laws.Join.{each_more, gather-join}
+use Rattle.lists.proofs.Laws.Join.{each_more, gather-join}
 use Rattle.lists.specs.Laws.Write.{Wrote}
 use Rattle.timing.specs.Limits.{most_k}
 use Rattle.timing.specs.Table.{Table, pin_count}

@@ -1,4 +1,6 @@
 // The asking: its refusals, its answer, and what is left in the lent room and work area.
+#![tactic(auto)]
+
 ghost use Rattle.std.specs.Prelude.{◌≡◌, List, ℕ, ◌-◌, ◌≤◌, ◌<◌, length, get_or, set, take, drop, replicate, ℤ, pos};
 ghost use Rattle.lists.specs.Parts.{gather, written};
 ghost use Rattle.timing.specs.Limits.{most_pins, most_k, work_length};
@@ -148,7 +150,7 @@ fn row_of(table: &[u32], work: &[u64], c: Candidate, slot: usize, row: &mut [i64
 // ---- one row
 
 // The numbers of a row before its arcs.
-#[derive(Drop)]
+#[derive(Clone, Copy)]
 struct Head {
     slack: i64,
     credit: u64,
