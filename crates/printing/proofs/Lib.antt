@@ -1,4 +1,4 @@
-pub mod Signs
 pub mod Spelling
 pub mod Lines
 pub mod Rows
+pub mod Asking

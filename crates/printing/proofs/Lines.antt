@@ -9,7 +9,7 @@ use native.Mathlib.Nat.{add-zero}
 use lib.ListN.{length, take}
 use lib.IntN.{ℤ, pos, negsuc}
 use Rattle.lists.specs.Parts.{gather}
-use Rattle.lists.specs.Laws.Join.{gather-join}
+use Rattle.lists.proofs.Laws.Join.{gather-join}
 use Rattle.lists.specs.Laws.Integer.{up, down}
 use Rattle.timing.specs.Field.{Bytes, bytes}
 use Rattle.timing.specs.Printed.{digits, tab, printed_line, row_arcs, row_numbers, row_lines}

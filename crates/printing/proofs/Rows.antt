@@ -11,9 +11,9 @@ use lib.ListN.{length, take, drop, length-drop, drop_of_length-le}
 use lib.Seq.{take_all, take-nil}
 use lib.IntN.{ℤ}
 use Rattle.lists.specs.Parts.{below, each}
-use Rattle.lists.specs.Laws.Member.{length-each}
-use Rattle.lists.specs.Laws.Join.{each_more}
-use Rattle.lists.specs.Laws.Column.{length-below}
+use Rattle.lists.proofs.Laws.Member.{length-each}
+use Rattle.lists.proofs.Laws.Join.{each_more}
+use Rattle.lists.proofs.Laws.Column.{length-below}
 use Rattle.timing.specs.Field.{Bytes, bytes}
 use Rattle.timing.specs.Printed.{printed_line, row_numbers, row_lines}
 use Rattle.printing.specs.Put.{Put}

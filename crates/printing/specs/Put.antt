@@ -9,7 +9,8 @@ use mathlib.Core.List.{List, [], ◌∷◌, ◌++◌}
 use Rattle.std.proofs.Math.Decide.{dec_le}
 use Rattle.std.proofs.Math.Seq.{set_out}
 use Rattle.lists.specs.Parts.{written}
-use Rattle.lists.specs.Laws.Write.{sets, sets-join, sets-front, length-sets}
+use Rattle.lists.specs.Laws.Write.{sets}
+use Rattle.lists.proofs.Laws.Write.{sets-join, sets-front, length-sets}
 use Rattle.timing.specs.Field.{Bytes}
 
 -- the largest number of 64 bits

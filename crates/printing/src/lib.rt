@@ -3,6 +3,8 @@
 // Each `put` writes its bytes into the lent bytes from a place on, as many as fit, and answers the place behind them (`Put`).
 // So a line is made of its parts one after the other, and nothing here can fail: not for lent bytes that are too few, nor for a room
 // that no asking filled.
+#![tactic(auto)]
+
 ghost use Rattle.std.specs.Prelude.{◌≡◌, [], ◌∷◌, ◌+◌, ◌≤◌, ◌<◌, min, length, take, drop, pos};
 ghost use Rattle.lists.specs.Parts.{gather};
 ghost use Rattle.lists.specs.Laws.Integer.{up, down};

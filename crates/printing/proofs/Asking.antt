@@ -9,9 +9,10 @@ use Rattle.std.proofs.Math.Option.{Option, none, some}
 use Rattle.std.proofs.Math.ListN.{length}
 use Rattle.std.proofs.Math.Seq.{take-length}
 use Rattle.lists.specs.Parts.{below, each, gather, written}
-use Rattle.lists.specs.Laws.Member.{All, of-all, in-each, in_take}
-use Rattle.lists.specs.Laws.Join.{each-join}
-use Rattle.lists.specs.Laws.Unmet.{unmet-none, unmet-left}
+use Rattle.lists.specs.Laws.Member.{All}
+use Rattle.lists.proofs.Laws.Member.{of-all, in-each, in_take}
+use Rattle.lists.proofs.Laws.Join.{each-join}
+use Rattle.lists.proofs.Laws.Unmet.{unmet-none, unmet-left}
 use Rattle.lists.specs.Laws.Write.{sets}
 use Rattle.timing.specs.declared.Refusal.{Refusal}
 use Rattle.timing.specs.declared.Answer.{Answer}
@@ -24,10 +25,10 @@ use Rattle.timing.specs.Rows.{mode_of, row_length, row, first_paths, rows}
 use Rattle.timing.specs.Check.{table_grounds, table_fault}
 use Rattle.timing.specs.Asked.{asking_grounds, asking_fault, table_rows, answer_of, answer, room_of, room_after}
 use Rattle.timing.specs.Printed.{printed_answer, row_room, printed_table}
-use Rattle.timing.specs.Laws.Columns.{pins-is}
-use Rattle.timing.specs.Laws.Order.{ranked-paths}
-use Rattle.timing.specs.Laws.Accepted.{accepted}
-use Rattle.timing.specs.Laws.Written.{row-length}
+use Rattle.timing.proofs.Laws.Columns.{pins-is}
+use Rattle.timing.proofs.Laws.Order.{ranked-paths}
+use Rattle.timing.proofs.Laws.Accepted.{accepted}
+use Rattle.timing.proofs.Laws.Written.{row-length}
 use Rattle.printing.specs.Put.{counted}
 use Rattle.printing.specs.Room.{room_rows, printed_room}
 
