@@ -5,12 +5,9 @@
 -- Of every two answered askings, over what they return and the rooms that they leave. What is supposed of the designs, and the sum, are in `Wider`.
 -- Assumes nothing.
 use Rattle.std.specs.Prelude.{◌≡◌, ℕ, ◌+◌, ◌*◌, ◌<◌, get_or, ℤ, pos, ◌+ℤ◌, ◌≤ℤ◌}
-use Rattle.std.proofs.Common.{sym, ◌∙◌}
 use Rattle.timing.specs.Table.{Table, pin_count}
 use Rattle.demands.specs.Definitions.{Answered}
-use Rattle.demands.specs.Wider.{SameStructure, Wider, moved}
-use Rattle.demands.specs.Laws.Granted.{granted}
-use Rattle.demands.specs.Laws.Widened.{same-structure, wider-times, moved-is, rows-move, slack-place}
+use Rattle.demands.specs.Wider.{moved}
 
 -- the slack of rank r, counted from 0: the first number of its row in the room that an asking leaves
 abbrev pub slack_at : {t : Table} {mode k : ℕ} → Answered t mode k → ℕ → ℤ
@@ -23,16 +20,3 @@ pub record NoBetter (t u : Table) (mode k : ℕ) (a : Answered t mode k) (b : An
   pub no-greater : (r : ℕ) → r < a.rows → slack_at b r ≤ℤ slack_at a r
   -- "Nor is it lower by more than everything that was widened, lengthened or shortened, added up."
   pub not_lower : (r : ℕ) → r < a.rows → slack_at a r ≤ℤ (slack_at b r +ℤ pos (moved t u))
-
-pub demand-3 : (t u : Table) (mode k : ℕ) → SameStructure t u → Wider t u → (a : Answered t mode k) (b : Answered u mode k) → NoBetter t u mode k a b
-demand-3 t u mode k same wider a b =
-    let g = granted t mode k a in
-    let h = granted u mode k b in
-    let d = rows-move t u g.checked h.checked (same-structure t u same) (wider-times t u wider) mode k in
-    let equal : a.rows ≡ b.rows = g.counted ∙ d.0 ∙ sym h.counted in
-    record {
-      same_rows = equal;
-      no-greater = λ r l. rw (slack-place t mode k a g r l, slack-place u mode k b h r (rw equal at l)) (d.1 r (rw g.counted at l)).0;
-      not_lower = λ r l.
-          rw (slack-place t mode k a g r l, slack-place u mode k b h r (rw equal at l), ← moved-is t u) (d.1 r (rw g.counted at l)).1;
-    }

@@ -1,15 +1,5 @@
--- What the theorems rest on.
+-- What the laws of proofs/Laws speak of, a file for each subject.
 pub mod Granted
-pub mod Runs
-pub mod Ancestors
-pub mod Slacks
-pub mod Ordered
-pub mod Reported
-pub mod Widened
-pub mod Turns
-pub mod TableTests
 pub mod TableOrder
 pub mod TextTests
-pub mod TextOrder
 pub mod Refused
-pub mod Printing

@@ -4,22 +4,19 @@
 -- asking allow and whatever the memory held that was lent to them: "It prints for each row `path`, rank, slack, credit, test, start and the arcs from the
 -- start; then `end`, rows and total; tabs between. On a refusal it prints one line only: `refused`, number, place, with tabs between."
 -- Assumes nothing.
-use Rattle.std.specs.Prelude.{◌≡◌, List, [], ◌∷◌, ◌++◌, ℕ, length, take, ℤ, pos}
-use Rattle.std.proofs.Common.{◌∙◌}
+use Rattle.std.specs.Prelude.{◌≡◌, List, [], ◌∷◌, ◌++◌, ℕ, take, ℤ, pos}
 use Rattle.timing.specs.declared.Refusal.{Refusal}
 use Rattle.timing.specs.declared.Reading.{Reading}
 use Rattle.timing.specs.declared.Reading.TheVariants.{Read, Refused as NotRead}
 use Rattle.timing.specs.declared.Answer.{Answer}
 use Rattle.timing.specs.declared.Answer.TheVariants.{Given, Refused as NotGiven}
-use Rattle.timing.specs.Limits.{work_length}
 use Rattle.timing.specs.Table.{Table, pin_count}
 use Rattle.timing.specs.Rows.{row_length}
 use Rattle.timing.specs.Refusals.{number_of, place_of}
 use Rattle.timing.specs.Field.{Bytes, bytes}
-use Rattle.timing.specs.Printed.{printed_line, row_lines, refused_line, printed_answer, table_room, row_room, printed}
-use Rattle.timing.specs.Allows.{ReadAllows, AskAllows}
-use Rattle.printing.specs.Room.{room_rows, printed_room}
-use Rattle.demands.specs.Laws.Printing.{refused-printed, asked-printed}
+use Rattle.timing.specs.Printed.{printed_line, row_lines, printed}
+use Rattle.timing.specs.Allows.{AskAllows}
+use Rattle.printing.specs.Room.{room_rows}
 
 -- one line: `refused`, number, place
 abbrev pub RefusalPrinted : Bytes → Refusal → Type 0
@@ -36,14 +33,3 @@ pub record TextPrinted (x : Bytes) (r : Reading) (table' : List ℕ) (room : Lis
   pub refused : (q : Refusal) → r ≡ NotRead q → RefusalPrinted (printed x) q
   pub asked : (n mode k : ℕ) → r ≡ Read n mode k → (b : Answer) (room' : List ℤ) (work' : List ℕ)
       → AskAllows (take n table') mode k room work b room' work' → AnswerPrinted (printed x) (take n table') b room'
-
-pub program : (x : Bytes) (table : List ℕ) (room : List ℤ) (work : List ℕ) → length table ≡ table_room → length room ≡ row_room → length work ≡ work_length
-    → (r : Reading) (table' : List ℕ) → ReadAllows x table r table' → TextPrinted x r table' room work
-unfolding refused_line printed_room printed_answer
-program x table room work lt lr lw r table' a =
-    record {
-      refused = refused-printed x table lt r table' a;
-      asked = λ n mode k e b room' work' h.
-          let p = asked-printed x table lt r table' a n mode k e room work lr lw b room' work' h in
-          record { refused = λ q f. p ∙ rw f; given = λ rows total f. p ∙ rw f };
-    }

@@ -8,10 +8,7 @@ use Rattle.timing.specs.Structure.{structure, times}
 use Rattle.timing.specs.Paths.{Path}
 use Rattle.timing.specs.Slack.{path_credit, slack}
 use Rattle.timing.specs.Rows.{mode_of}
-use Rattle.timing.specs.Laws.Accepted.{accepted}
-use Rattle.demands.specs.Definitions.{Answered, IsPath, ByDefinition}
-use Rattle.demands.specs.Laws.Granted.{granted}
-use Rattle.demands.specs.Laws.Slacks.{by-definition, defined}
+use Rattle.demands.specs.Definitions.{IsPath, ByDefinition}
 
 -- the credit and the slack of a path that the operations are proved to give
 abbrev pub credit_given : Table → ℕ → Path → ℤ
@@ -24,11 +21,3 @@ pub record Defined (t : Table) (mode : ℕ) : Type 0 where
   pub fit : ByDefinition (mode_of mode) (structure t) (times t) (credit_given t mode) (slack_given t mode)
   pub only : (credit_of slack_of : Path → ℤ) → ByDefinition (mode_of mode) (structure t) (times t) credit_of slack_of
       → (p : Path) → IsPath (structure t) p → (credit_of p ≡ credit_given t mode p) × (slack_of p ≡ slack_given t mode p)
-
-pub slack-defined : (t : Table) (mode k : ℕ) → Answered t mode k → Defined t mode
-slack-defined t mode k a =
-    let c = accepted t (granted t mode k a).checked in
-    record {
-      fit = defined (structure t) c.sound (times t) c.ranged (mode_of mode);
-      only = by-definition (structure t) c.sound (times t) c.ranged (mode_of mode);
-    }

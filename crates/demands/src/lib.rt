@@ -1,1 +1,2 @@
 // The customer's demands as theorems, in specs/; no code.
+#![tactic(auto)]

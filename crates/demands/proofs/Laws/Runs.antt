@@ -4,15 +4,15 @@
 use Rattle.std.specs.Prelude.{◌≡◌, refl, ◌⊎◌, ◌≢◌, ◌↔◌, true, false, List, [], ◌∷◌, ℕ, ◌<◌, eqb}
 use Rattle.std.proofs.Math.Logic.{inl, inr}
 use Rattle.std.proofs.Common.{arith, eqb-true}
-use Rattle.lists.specs.Laws.Cases.{by-test}
+use Rattle.lists.proofs.Laws.Cases.{by-test}
 use Rattle.lists.specs.Laws.Member.{In}
 use Rattle.timing.specs.Kinds.{R, B, K, I, D, may_drive}
 use Rattle.timing.specs.Structure.{Structure, arcs, kind, leaves, enters, data_pin}
 use Rattle.timing.specs.Paths.{is_start, Path, paths}
-use Rattle.timing.specs.Laws.Kinds.{drive-cases}
+use Rattle.timing.proofs.Laws.Kinds.{drive-cases}
 use Rattle.timing.specs.Laws.Sound.{Sound}
 use Rattle.timing.specs.Laws.Walked.{Walk}
-use Rattle.timing.specs.Laws.Listed.{exactly-paths}
+use Rattle.timing.proofs.Laws.Listed.{exactly-paths}
 use Rattle.demands.specs.Definitions.{Runs, IsPath}
 
 -- what drives a D starts a path or is a D; what drives anything else is an R or a B

@@ -5,16 +5,17 @@
 use Rattle.std.specs.Prelude.{◌≡◌, ◌↔◌, List, ℕ, min, length}
 use Rattle.std.proofs.Common.{ap, ◌∙◌}
 use Rattle.lists.specs.Laws.Member.{In}
-use Rattle.lists.specs.Laws.Once.{Once, once-length}
+use Rattle.lists.specs.Laws.Once.{Once}
+use Rattle.lists.proofs.Laws.Once.{once-length}
 use Rattle.timing.specs.Table.{Table}
 use Rattle.timing.specs.Structure.{structure}
 use Rattle.timing.specs.Paths.{Path, paths}
 use Rattle.timing.specs.Rows.{total}
-use Rattle.timing.specs.Laws.Accepted.{accepted}
-use Rattle.timing.specs.Laws.Listed.{paths-once}
+use Rattle.timing.proofs.Laws.Accepted.{accepted}
+use Rattle.timing.proofs.Laws.Listed.{paths-once}
 use Rattle.demands.specs.Definitions.{Answered, IsPath}
-use Rattle.demands.specs.Laws.Granted.{granted}
-use Rattle.demands.specs.Laws.Runs.{in_all}
+use Rattle.demands.proofs.Laws.Granted.{granted}
+use Rattle.demands.proofs.Laws.Runs.{in_all}
 
 pub total-paths : (t : Table) (mode k : ℕ) (a : Answered t mode k) (l : List Path) → ((p : Path) → In p l ↔ IsPath (structure t) p) → Once l
     → a.total ≡ min 1000000000 (length l)

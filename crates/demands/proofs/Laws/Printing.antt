@@ -3,7 +3,7 @@
 use Rattle.std.specs.Prelude.{◌≡◌, List, ℕ, length, take, ℤ}
 use Rattle.std.proofs.Common.{sym, ap, ◌∙◌}
 use Rattle.std.proofs.Math.Option.{none}
-use Rattle.lists.specs.Laws.Write.{written-front}
+use Rattle.lists.proofs.Laws.Write.{written-front}
 use Rattle.timing.specs.declared.Refusal.{Refusal}
 use Rattle.timing.specs.declared.Reading.{Reading}
 use Rattle.timing.specs.declared.Reading.TheVariants.{Read, Refused as NotRead}
@@ -14,10 +14,10 @@ use Rattle.timing.specs.Field.{Bytes}
 use Rattle.timing.specs.Text.{table_length, table_of, text_fault, reading_of, reading, filled_of, room_filled}
 use Rattle.timing.specs.Printed.{refused_line, table_room, row_room, printed_table, printed_reading, printed}
 use Rattle.timing.specs.Allows.{ReadAllows, AskAllows}
-use Rattle.timing.specs.Laws.Lines.{table-length}
+use Rattle.timing.proofs.Laws.Lines.{table-length}
 use Rattle.printing.specs.Room.{printed_room}
-use Rattle.printing.specs.Asking.{printed-room}
-use Rattle.demands.specs.Laws.Refused.{reading-outcome}
+use Rattle.printing.proofs.Asking.{printed-room}
+use Rattle.demands.proofs.Laws.Refused.{reading-outcome}
 
 module _ (x : Bytes) (table : List ℕ) (l : length table ≡ table_room) (r : Reading) (table' : List ℕ) (a : ReadAllows x table r table') where
   told : r ≡ reading x table_room

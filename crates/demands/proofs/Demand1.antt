@@ -25,10 +25,10 @@ use Rattle.timing.specs.Text.{text_fault}
 use Rattle.timing.specs.Allows.{ReadAllows, CheckAllows, AskAllows, EnterAllows}
 use Rattle.demands.specs.Conditions.{TableHolds, AskHolds, ListHolds, Refuses}
 use Rattle.demands.specs.TextConditions.{TextHolds}
-use Rattle.demands.specs.Laws.Turns.{same-refusal}
-use Rattle.demands.specs.Laws.TableOrder.{table-decides, ask-decides}
-use Rattle.demands.specs.Laws.TextOrder.{text-decides}
-use Rattle.demands.specs.Laws.Refused.{refuses, reading-outcome, check-outcome, ask-outcome, enter-outcome, enter-decides}
+use Rattle.demands.proofs.Laws.Turns.{same-refusal}
+use Rattle.demands.proofs.Laws.TableOrder.{table-decides, ask-decides}
+use Rattle.demands.proofs.Laws.TextOrder.{text-decides}
+use Rattle.demands.proofs.Laws.Refused.{refuses, reading-outcome, check-outcome, ask-outcome, enter-outcome, enter-decides}
 
 -- number and place tell a refusal
 pub demand-1-places : (q r : Refusal) → number_of q ≡ number_of r → place_of q ≡ place_of r → q ≡ r

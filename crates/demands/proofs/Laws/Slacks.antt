@@ -8,7 +8,7 @@ use mathlib.Core.List.{List, [], ◌∷◌}
 use Rattle.std.proofs.Math.IntN.{sub_ℕ}
 use Rattle.lists.specs.Choice.{pick}
 use Rattle.lists.specs.Parts.{sum, last}
-use Rattle.lists.specs.Laws.Integer.{down, both-within, sub_is, plus-is, minus_is}
+use Rattle.lists.proofs.Laws.Integer.{both-within, sub_is, plus-is, minus_is}
 use Rattle.timing.specs.Kinds.{B, K, I}
 use Rattle.timing.specs.Table.{Edge, early, late}
 use Rattle.timing.specs.Structure.{Structure, pins, arcs, kind, leaves, enters, clock_pin, data_pin, Times}
@@ -16,10 +16,12 @@ use Rattle.timing.specs.Clock.{into, clock_arrival, common, pin_credit}
 use Rattle.timing.specs.Paths.{Path, start}
 use Rattle.timing.specs.Slack.{Mode, for_setup, for_hold, start_arrival, path_credit, gain, loss, slack}
 use Rattle.timing.specs.Laws.Sound.{Sound}
-use Rattle.timing.specs.Laws.Routes.{climb-ind, root-only, Clocked}
-use Rattle.timing.specs.Laws.Ranged.{Ranged, clock-order, clock-root, clock-step}
+use Rattle.timing.proofs.Laws.Routes.{climb-ind, root-only}
+use Rattle.timing.specs.Laws.Routes.{Clocked}
+use Rattle.timing.specs.Laws.Ranged.{Ranged}
+use Rattle.timing.proofs.Laws.Ranged.{clock-order, clock-root, clock-step}
 use Rattle.demands.specs.Definitions.{Runs, IsPath, Arrivals, before, credit, Credited, ByDefinition}
-use Rattle.demands.specs.Laws.Ancestors.{into-clocked, ancestor-in, ancestor-clocked, common-lowest, lowest-is}
+use Rattle.demands.proofs.Laws.Ancestors.{into-clocked, ancestor-in, ancestor-clocked, common-lowest, lowest-is}
 
 -- ---- sums of integers, term by term
 
@@ -108,7 +110,6 @@ module _ (s : Structure) (ok : Sound s) (x : Times) where
       }
 
   -- ---- the two ends of a path
-
   record Ends (p : Path) : Type 0 where
     pub start-in : start s p < pins s
     pub start-kind : (kind s (start s p) ≡ K) ⊎ (kind s (start s p) ≡ I)
@@ -133,7 +134,6 @@ module _ (s : Structure) (ok : Sound s) (x : Times) where
       }
 
   -- ---- credit and slack
-
   module _ (r : Ranged s x) (at : Edge → ℕ → ℕ) (h : Arrivals s x at) (m : Mode) (p : Path) (i : IsPath s p) where
     abbrev o1 : ℕ
     o1 = start s p

@@ -4,21 +4,23 @@ use Rattle.std.specs.Prelude.{◌≡◌, ◌⊎◌, List, [], ℕ, ◌-◌, ◌*
 use Rattle.std.proofs.Common.{sym, ap, ◌∙◌, add-zero, arith, get_or-take, get_or-drop}
 use Rattle.std.proofs.Math.Option.{none}
 use Rattle.lists.specs.Parts.{below, each}
-use Rattle.lists.specs.Laws.Member.{in-below, each-cong}
-use Rattle.lists.specs.Laws.Column.{column-at}
-use Rattle.lists.specs.Laws.Sum.{sum-plus}
-use Rattle.lists.specs.Laws.Integer.{within-le, within-plus}
+use Rattle.lists.proofs.Laws.Member.{in-below, each-cong}
+use Rattle.lists.proofs.Laws.Column.{column-at}
+use Rattle.lists.proofs.Laws.Sum.{sum-plus}
+use Rattle.lists.proofs.Laws.Integer.{within-le, within-plus}
 use Rattle.timing.specs.Kinds.{R, I}
 use Rattle.timing.specs.Table.{Table, pin_count, arc_count, test_count, early, late, pin_kind, pin_time, arc_from, arc_to, arc_time, test_clock, test_data, test_setup, test_hold}
-use Rattle.timing.specs.Structure.{pins, arcs, tests, kind, structure, times}
+use Rattle.timing.specs.Structure.{pins, kind, structure, times}
 use Rattle.timing.specs.Rows.{mode_of, row_length, rows}
 use Rattle.timing.specs.Check.{table_fault}
 use Rattle.timing.specs.Asked.{table_rows}
-use Rattle.timing.specs.Laws.Columns.{pins-is, arcs-is, tests-is, kind-is}
-use Rattle.timing.specs.Laws.Accepted.{accepted}
+use Rattle.timing.proofs.Laws.Columns.{pins-is, arcs-is, tests-is, kind-is}
+use Rattle.timing.proofs.Laws.Accepted.{accepted}
 use Rattle.timing.specs.Laws.Ranged.{Ranged}
-use Rattle.timing.specs.Laws.Wider.{Wider as WiderTimes, above, moved as moved_times, ranked-falls, ranked-near}
-use Rattle.timing.specs.Laws.Written.{slack_at as slack_of_row, rows_both}
+use Rattle.timing.specs.Laws.Wider.{Wider as WiderTimes, above, moved as moved_times}
+use Rattle.timing.proofs.Laws.Wider.{ranked-falls, ranked-near}
+use Rattle.timing.specs.Laws.Written.{slack_at as slack_of_row}
+use Rattle.timing.proofs.Laws.Written.{rows_both}
 use Rattle.printing.specs.Room.{room_rows}
 use Rattle.demands.specs.Definitions.{Answered}
 use Rattle.demands.specs.Wider.{SameStructure, Wider, moved}
@@ -41,7 +43,6 @@ same-structure t u h =
     }
 
 -- ---- wider, and by how much
-
 pub wider-times : (t u : Table) → Wider t u → WiderTimes (structure t) (times t) (times u)
 unfolding times
 wider-times t u w =
@@ -100,7 +101,6 @@ rows-move t u ft fu e w mode k =
     )
 
 -- ---- the slack of a rank
-
 pub slack-place : (t : Table) (mode k : ℕ) (a : Answered t mode k) → Granted t mode k a → (r : ℕ) → r < a.rows
     → get_or a.room' (r * row_length (pin_count t)) (pos 0) ≡ slack_of_row (table_rows t mode k) r
 unfolding slack_of_row room_rows

@@ -4,20 +4,22 @@
 use Rattle.std.specs.Prelude.{◌≡◌, ◌≢◌, ◌↔◌, List, ℕ, min, length, take, ℤ}
 use Rattle.std.proofs.Common.{ap, ◌∙◌, length-take}
 use Rattle.lists.specs.Parts.{each}
-use Rattle.lists.specs.Laws.Member.{In, Pairs, pairs-map, in_take, each-cong, length-each}
-use Rattle.lists.specs.Laws.Once.{pairs-members}
-use Rattle.lists.specs.Laws.Ranking.{perm_in, one-order}
+use Rattle.lists.specs.Laws.Member.{In, Pairs}
+use Rattle.lists.proofs.Laws.Member.{pairs-map, in_take, each-cong, length-each}
+use Rattle.lists.proofs.Laws.Once.{pairs-members}
+use Rattle.lists.proofs.Laws.Ranking.{perm_in, one-order}
 use Rattle.timing.specs.Structure.{Structure, Times}
 use Rattle.timing.specs.Paths.{Path}
 use Rattle.timing.specs.Slack.{Mode, ranked}
 use Rattle.timing.specs.Rows.{row, first_paths, rows}
 use Rattle.timing.specs.Laws.Sound.{Sound}
 use Rattle.timing.specs.Laws.Ranged.{Ranged}
-use Rattle.timing.specs.Laws.Order.{Ahead as AheadBy, ranked-order, ranked-all, ranked-paths}
+use Rattle.timing.specs.Laws.Order.{Ahead as AheadBy}
+use Rattle.timing.proofs.Laws.Order.{ranked-order, ranked-all, ranked-paths}
 use Rattle.demands.specs.Definitions.{IsPath, Ahead, AllPaths, ByDefinition, row_of}
-use Rattle.demands.specs.Laws.Runs.{in_all}
-use Rattle.demands.specs.Laws.Slacks.{by-definition}
-use Rattle.demands.specs.Laws.Ordered.{strict-total, ahead-asym}
+use Rattle.demands.proofs.Laws.Runs.{in_all}
+use Rattle.demands.proofs.Laws.Slacks.{by-definition}
+use Rattle.demands.proofs.Laws.Ordered.{strict-total, ahead-asym}
 
 module _ (m : Mode) (s : Structure) (x : Times) (ok : Sound s) (r : Ranged s x) (credit_of slack_of : Path → ℤ) (d : ByDefinition m s x credit_of slack_of) where
   ranked-in : (p : Path) → In p (ranked m s x) ↔ IsPath s p

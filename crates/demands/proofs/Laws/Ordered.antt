@@ -5,14 +5,14 @@ use Rattle.std.specs.Prelude.{◌≡◌, refl, ◌⊎◌, ◌≢◌, List, [], �
 use Rattle.std.proofs.Common.{sym, ap₂, ◌∙◌, inl, inr, arith}
 use Rattle.std.proofs.Math.Decide.{dec_lt}
 use Rattle.std.specs.Int.Signed.{lt_z, <ℤ_irrefl}
-use Rattle.lists.specs.Laws.Cases.{by-test}
-use Rattle.lists.specs.Laws.Integer.{less-within, not-less-within, within-less, less-at, both-within}
+use Rattle.lists.proofs.Laws.Cases.{by-test}
+use Rattle.lists.proofs.Laws.Integer.{less-within, not-less-within, within-less, less-at, both-within}
 use Rattle.timing.specs.Kinds.{K, I, D}
 use Rattle.timing.specs.Structure.{Structure, kind, leaves, data_pin}
 use Rattle.timing.specs.Paths.{Path}
 use Rattle.timing.specs.Laws.Sound.{Sound}
 use Rattle.demands.specs.Definitions.{Runs, IsPath, Before, Ahead, StrictTotal}
-use Rattle.demands.specs.Laws.Runs.{no_run}
+use Rattle.demands.proofs.Laws.Runs.{no_run}
 
 -- one of three
 abbrev Either : {A : Type 0} → (A → A → Type 0) → A → A → Type 0
@@ -32,7 +32,6 @@ either-slack x y =
     (λ f. inr (inl (both-within x y (not-less-within y x f) (not-less-within x y e)))))
 
 -- ---- walks
-
 before-not : (l : List ℕ) → Before l l → ⊥
 before-not [] h = h
 before-not (a ∷ l) (inl h) = omega arith
@@ -79,7 +78,6 @@ module _ (s : Structure) (ok : Sound s) where
   walks-either v (a ∷ c ∷ l) (b ∷ d ∷ m) h k = by_first a b (c ∷ l) (d ∷ m) (λ e. walks-either (leaves s a) (c ∷ l) (d ∷ m) h.2 (rw e k.2))
 
   -- ---- paths
-
   -- by test, then by walk
   abbrev Tie : Path → Path → Type 0
   Tie p q = (p.test < q.test) ⊎ ((p.test ≡ q.test) × Before p.walk q.walk)

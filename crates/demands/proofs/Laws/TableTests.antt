@@ -4,15 +4,17 @@ use Rattle.std.specs.Prelude.{◌≡◌, refl, ◌⊎◌, ◌≢◌, Bool, true,
 use Rattle.std.proofs.Common.{inl, inr, arith, eq-eqb, eqb-true}
 use Rattle.std.proofs.Math.Decide.{dec_lt}
 use Rattle.lists.specs.Parts.{below, those}
-use Rattle.lists.specs.Laws.Means.{Means, means-as, means-not, means-or, means-and, means-less, means-most, means-same, means-over, means-least}
-use Rattle.lists.specs.Laws.Member.{In, Pairs, in_one, in-those, into-those, in-below, into-below, in-any, pairs-those, pairs_below}
+use Rattle.lists.specs.Laws.Means.{Means}
+use Rattle.lists.proofs.Laws.Means.{means-as, means-not, means-or, means-and, means-less, means-most, means-same, means-over, means-least}
+use Rattle.lists.specs.Laws.Member.{In, Pairs}
+use Rattle.lists.proofs.Laws.Member.{in_one, in-those, into-those, in-below, into-below, in-any, pairs-those, pairs_below}
 use Rattle.timing.specs.Limits.{most_pins, most_arcs, most_tests, most_time, most_k, work_length}
 use Rattle.timing.specs.Kinds.{R, B, K, I, D, has_times, Pair, ◌to◌, allowed, may_drive}
 use Rattle.timing.specs.Table.{Table, pin_count, arc_count, test_count, period_of, length_for, early, late, pin_kind, pin_time, arc_from, arc_to, arc_time, test_clock, test_data, test_setup, test_hold}
 use Rattle.timing.specs.Check.{header_bad, range_bad, pin_numbers_bad, pin_bad, is_root, roots_bad, end_numbers_bad, ends_bad, kinds_bad, delay_bad, arcs_into, into_numbers_bad, into_bad, is_of, test_bad}
 use Rattle.timing.specs.Rows.{row_length}
 use Rattle.timing.specs.Asked.{asking_bad, room_bad}
-use Rattle.timing.specs.Laws.Kinds.{drive-cases}
+use Rattle.timing.proofs.Laws.Kinds.{drive-cases}
 use Rattle.demands.specs.Conditions.{HeaderWrong, BadRange, PinWrong, OneRoot, EndsWrong, KindsWrong, IntoWrong, IsPin, TestWrong, AskingWrong, RoomShort}
 
 -- neither of two is not both
@@ -21,7 +23,6 @@ not-and true b = refl
 not-and false b = refl
 
 -- ---- 6
-
 pub header-means : (t : Table) → Means (header_bad t) (HeaderWrong t)
 unfolding header_bad
 header-means t =
@@ -47,7 +48,6 @@ header-means t =
     (means-not (means-same (length t) (length_for (pin_count t) (arc_count t) (test_count t))))
 
 -- ---- 7 and 11
-
 range-means : (e l : ℕ) → Means (range_bad e l) (BadRange e l)
 range-means e l =
     means-as (means-not (means-and (means-most e l) (means-most l most_time))) (λ n h. n (h.0, h.2)) (λ n h. n (h.0, omega (arith, h.0, h.1), h.1))
@@ -107,7 +107,6 @@ unfolding delay_bad
 delay-means t a = range-means (arc_time t early a) (arc_time t late a)
 
 -- ---- 8
-
 pub roots-means : (t : Table) → Means (roots_bad t) (OneRoot t → ⊥)
 unfolding roots_bad
 roots-means t =
@@ -142,7 +141,6 @@ roots-means t =
         no_way e f l = omega arith
 
 -- ---- 9 and 10
-
 pub ends-means : (t : Table) (a : ℕ) → Means (ends_bad t a) (EndsWrong t a)
 unfolding ends_bad
 ends-means t a = go (pin_count t) (arc_from t a) (arc_to t a)
@@ -175,7 +173,6 @@ unfolding kinds_bad
 kinds-means t a = means-not (drives-means (pin_kind t (arc_from t a)) (pin_kind t (arc_to t a)))
 
 -- ---- 12 and 13
-
 pub into-means : (t : Table) (p : ℕ) → Means (into_bad t p) (IntoWrong t p)
 unfolding into_bad
 into-means t p = go (pin_kind t p) (length (arcs_into t p))
@@ -215,7 +212,6 @@ test-means t j =
     ungroup (inr (inr (inr h))) = inr h
 
 -- ---- 14 and 15
-
 pub asking-means : (mode k : ℕ) → Means (asking_bad mode k) (AskingWrong mode k)
 asking-means mode k = means-as (means-or (means-or (means-less 1 mode) (means-same k 0)) (means-less most_k k)) sentence test
   where

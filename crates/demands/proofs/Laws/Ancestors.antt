@@ -6,10 +6,11 @@ use Rattle.lists.specs.Laws.Member.{In}
 use Rattle.timing.specs.Kinds.{R, B, K}
 use Rattle.timing.specs.Structure.{Structure, pins, arcs, kind, leaves, enters}
 use Rattle.timing.specs.Clock.{into, route, common}
-use Rattle.timing.specs.Laws.Kinds.{drive-clock, drive-root}
+use Rattle.timing.proofs.Laws.Kinds.{drive-clock, drive-root}
 use Rattle.timing.specs.Laws.Sound.{Sound}
-use Rattle.timing.specs.Laws.Routes.{climb-ind, route-top, route-step, self-route, Clocked, common-on}
-use Rattle.timing.specs.Laws.Common.{only-in, lowest-common}
+use Rattle.timing.proofs.Laws.Routes.{climb-ind, route-top, route-step, self-route, common-on}
+use Rattle.timing.specs.Laws.Routes.{Clocked}
+use Rattle.timing.proofs.Laws.Common.{only-in, lowest-common}
 use Rattle.demands.specs.Definitions.{Ancestor, itself, over, Lowest}
 
 module _ (s : Structure) (ok : Sound s) where

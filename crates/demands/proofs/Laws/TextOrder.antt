@@ -12,9 +12,11 @@ use native.Mathlib.Omega.{arith}
 use borrow.Author.Tests.{ltb-true, ltb-false}
 use Rattle.lists.specs.Choice.{pick, Ground, ground, first_met}
 use Rattle.lists.specs.Parts.{below, gather}
-use Rattle.lists.specs.Laws.Cases.{by-test}
-use Rattle.lists.specs.Laws.Means.{Means, means-fails, means-or, means-less, means-same, means-not}
-use Rattle.lists.specs.Laws.Decides.{Decides, decides-as, decides-none, decides-one, decides-append, decides-cons, decides-gather}
+use Rattle.lists.proofs.Laws.Cases.{by-test}
+use Rattle.lists.specs.Laws.Means.{Means}
+use Rattle.lists.proofs.Laws.Means.{means-fails, means-or, means-less, means-same, means-not}
+use Rattle.lists.specs.Laws.Decides.{Decides}
+use Rattle.lists.proofs.Laws.Decides.{decides-as, decides-none, decides-one, decides-append, decides-cons, decides-gather}
 use Rattle.timing.specs.declared.Refusal.{Refusal}
 use Rattle.timing.specs.declared.Refusal.TheVariants.{TextLong, LineNotDue, FieldCount, FieldForm, TableRoom, TableHeader, PinNumbers, RootCount, ArcEnds, ArcKinds, ArcRange, ArcsInto, TestNumbers, ModeOrK, RowRoom, ListCount}
 use Rattle.timing.specs.Limits.{most_text}
@@ -24,8 +26,8 @@ use Rattle.timing.specs.Line.{field_count, other_word, design_line, pin_line, fo
 use Rattle.timing.specs.Text.{whole, line_of, more, pins_of, arcs_of, lines_due, ask_number, table_length, due_line, line_grounds, due_grounds, ask_grounds, text_grounds, text_fault}
 use Rattle.demands.specs.Conditions.{turn, Earlier}
 use Rattle.demands.specs.TextConditions.{LineKind, design, pin, arc, test, ask, word_of, Stands, Due, Missing, WrongCount, Malformed, TextHolds}
-use Rattle.demands.specs.Laws.Turns.{not_itself, not_back}
-use Rattle.demands.specs.Laws.TextTests.{other-means, stands-means, four-means, sizes-means, mode-means, pin-count-means, pin-form-means}
+use Rattle.demands.proofs.Laws.Turns.{not_itself, not_back}
+use Rattle.demands.proofs.Laws.TextTests.{other-means, stands-means, four-means, sizes-means, mode-means, pin-count-means, pin-form-means}
 
 -- ---- three tests in place of more
 
@@ -119,7 +121,6 @@ module _ (x : Bytes) where
   line_at k n q (inr (inr (e, h))) = rw e (refl, refl)
 
   -- ---- the lines due between `design` and `ask`
-
   abbrev DueLine : ℕ → Refusal → Type 0
   DueLine i q = (k : LineKind) × Due x (2 + i) k × Line k (2 + i) q
 
@@ -183,7 +184,6 @@ module _ (x : Bytes) where
       (λ i j l q r h k. before-lines q r (2 + i) (2 + j) (line_at h.0 (2 + i) q h.2) (line_at k.0 (2 + j) r k.2) (omega arith))
 
   -- ---- `ask`, and what follows it
-
   abbrev n : ℕ
   n = ask_number x
 
@@ -218,7 +218,6 @@ module _ (x : Bytes) where
   dues-at q (i, l, (k, d, h)) = let r = line_at k (2 + i) q h in (r.0, omega (arith, r.1), omega (arith, r.1))
 
   -- ---- all of it
-
   module _ (room : ℕ) where
     abbrev Long : Refusal → Type 0
     Long q = (q ≡ TextLong) × (65536 < length x)
@@ -268,7 +267,6 @@ module _ (x : Bytes) where
         (λ r k. inl (inl (omega (arith, line-turns r k))))
 
     -- ---- as the sentences have it
-
     line-holds : (k : LineKind) (m : ℕ) (q : Refusal) → Due x m k → Line k m q → TextHolds x room q
     line-holds k m q d (inl (e, h)) = rw e (inl (k, d, h))
     line-holds k m q d (inr (inl (e, h))) = rw e (k, d, h)
