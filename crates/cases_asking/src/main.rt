@@ -1,8 +1,11 @@
 // Puts each asking stored in data/askings to the library and prints what it answers. What it must print is stored in `stdout`, made by
 // reference/stored_asking.py from the second implementation.
+#![tactic(auto)]
+
 ghost use Rattle.std.specs.Prelude.{◌≡◌, length};
 
-use libc::STDOUT_FILENO;
+use std::fs::File;
+use std::io::{self, Stdout};
 use stored::{mix, print_number};
 use timing::Answer;
 
@@ -51,17 +54,17 @@ fn fill_work(work: &mut [u64]) {
 }
 
 // Prints what an asking answers.
-fn show(answer: Answer) {
+fn show(out: &Stdout, answer: Answer) -> io::Result<()> {
     match answer {
         Answer::Given { rows, total } => {
-            io::write_all(STDOUT_FILENO, b"rows");
-            print_number(rows as u64);
-            print_number(total);
+            print!(out; "rows")?;
+            print_number(out, rows as u64)?;
+            print_number(out, total)
         }
         Answer::Refused(r) => {
-            io::write_all(STDOUT_FILENO, b"refused");
-            print_number(timing::number_of(r) as u64);
-            print_number(timing::place_of(r) as u64);
+            print!(out; "refused")?;
+            print_number(out, timing::number_of(r) as u64)?;
+            print_number(out, timing::place_of(r) as u64)
         }
     }
 }
@@ -78,17 +81,30 @@ fn fill_table(bytes: &[u8], from: usize, table: &mut [u32]) {
 }
 
 // An asking: the answer, the room and the work area afterwards.
-fn ask(table: &[u32], mode: u32, k: usize, room: &mut [i64], work: &mut [u64]) {
+fn ask(
+    out: &Stdout,
+    table: &[u32],
+    mode: u32,
+    k: usize,
+    room: &mut [i64],
+    work: &mut [u64],
+) -> io::Result<()> {
     fill_room(room);
     fill_work(work);
-    show(report::ask(table, mode, k, room, work));
-    print_number(sum_room(room));
-    print_number(sum_work(work));
-    io::write_all(STDOUT_FILENO, b"\n");
+    show(out, report::ask(table, mode, k, room, work))?;
+    print_number(out, sum_room(room))?;
+    print_number(out, sum_work(work))?;
+    print!(out; "\n")
 }
 
 // One stored asking.
-fn one_case(bytes: &[u8], table: &mut [u32], room: &mut [i64], work: &mut [u64]) {
+fn one_case(
+    out: &Stdout,
+    bytes: &[u8],
+    table: &mut [u32],
+    room: &mut [i64],
+    work: &mut [u64],
+) -> io::Result<()> {
     let size = stored::cut(stored::number_at(bytes, 0), table.len());
     let second = stored::behind(bytes, 0);
     let mode = stored::narrow(stored::number_at(bytes, second));
@@ -100,21 +116,29 @@ fn one_case(bytes: &[u8], table: &mut [u32], room: &mut [i64], work: &mut [u64])
     let area = stored::cut(stored::number_at(bytes, fifth), work.len());
     fill_table(bytes, stored::behind(bytes, fifth), &mut table[..size]);
     ask(
+        out,
         &table[..size],
         mode,
         k,
         &mut room[..places],
         &mut work[..area],
-    );
+    )
 }
 
 // The next stored asking.
-fn next_case(fd: i32, space: &mut [u8], table: &mut [u32], room: &mut [i64], work: &mut [u64]) {
-    let n = stored::cut(stored::next_length(fd), space.len());
-    let got = io::read_full(fd, &mut space[..n]);
-    if got == n {
-        one_case(&space[..n], table, room, work);
+fn next_case(
+    input: &mut File,
+    out: &Stdout,
+    space: &mut [u8],
+    table: &mut [u32],
+    room: &mut [i64],
+    work: &mut [u64],
+) -> io::Result<()> {
+    let n = stored::cut(stored::next_length(input), space.len());
+    if stored::read_full(input, &mut space[..n]) {
+        one_case(out, &space[..n], table, room, work)?;
     }
+    Ok(())
 }
 
 fn table_room() -> [u32; 5200]
@@ -136,26 +160,21 @@ fn work_area() -> [u64; 8200]
 }
 
 // Every stored asking in turn.
-fn all_cases(fd: i32) {
+fn all_cases(input: &mut File, out: &Stdout) -> io::Result<()> {
     let mut space = stored::space();
     let mut table = table_room();
     let mut room = row_room();
     let mut work = work_area();
-    let cases = stored::next_length(fd);
+    let cases = stored::next_length(input);
     let mut i = 0;
     while i < cases {
-        next_case(fd, &mut space, &mut table, &mut room, &mut work);
+        next_case(input, out, &mut space, &mut table, &mut room, &mut work)?;
         i += 1;
     }
+    Ok(())
 }
 
-fn main() {
-    let path = b"askings";
-    let fd = os::open_read(path);
-    if fd < 0 {
-        os::fail(path);
-        return;
-    }
-    all_cases(fd);
-    libc::close(fd);
+fn main(rt: HostRuntime) -> io::Result<()> {
+    let mut input = File::open(&rt, "askings")?;
+    all_cases(&mut input, &rt.stdout())
 }

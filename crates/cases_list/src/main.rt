@@ -1,10 +1,13 @@
 // Enters a record into each list stored in data/lists and prints what comes of it. What it must print is stored in `stdout`, made by
 // reference/stored_list.py from the second implementation.
+#![tactic(auto)]
+
 ghost use Rattle.std.specs.Prelude.{◌≡◌, ◌++◌, ◌≤◌, ◌<◌, take, drop};
 ghost use Rattle.timing.specs.Ranked.{enter_answer, list_after};
 
-use libc::STDOUT_FILENO;
 use ranked::Ranked;
+use std::fs::File;
+use std::io::{self, Stdout};
 use stored::{mix, print_number};
 use timing::{Candidate, Design, Entered};
 
@@ -12,7 +15,7 @@ use timing::{Candidate, Design, Entered};
 const PLACES: usize = 24;
 
 // The places after a record was entered into the first of them, and what that answered.
-#[derive(Drop)]
+#[derive(Clone, Copy)]
 struct Lent {
     list: [Candidate; PLACES],
     answer: Entered,
@@ -148,33 +151,33 @@ fn sum_ranked(list: [Candidate; Design::K]) -> u64 {
 }
 
 // Prints what entering answers.
-fn show(answer: Entered) {
+fn show(out: &Stdout, answer: Entered) -> io::Result<()> {
     match answer {
         Entered::Count(n) => {
-            io::write_all(STDOUT_FILENO, b"count");
-            print_number(n as u64);
+            print!(out; "count")?;
+            print_number(out, n as u64)
         }
         Entered::Refused(r) => {
-            io::write_all(STDOUT_FILENO, b"refused");
-            print_number(timing::number_of(r) as u64);
-            print_number(timing::place_of(r) as u64);
+            print!(out; "refused")?;
+            print_number(out, timing::number_of(r) as u64)?;
+            print_number(out, timing::place_of(r) as u64)
         }
     }
 }
 
-fn show_lent(after: Lent) {
+fn show_lent(out: &Stdout, after: Lent) -> io::Result<()> {
     let answer = after.answer;
     let list = after.list;
-    show(answer);
-    print_number(sum_places(list));
+    show(out, answer)?;
+    print_number(out, sum_places(list))
 }
 
-fn show_ranked(after: Ranked) {
+fn show_ranked(out: &Stdout, after: Ranked) -> io::Result<()> {
     let answer = after.answer;
     let list = after.list;
-    io::write_all(STDOUT_FILENO, b"\t");
-    show(answer);
-    print_number(sum_ranked(list));
+    print!(out; "\t")?;
+    show(out, answer)?;
+    print_number(out, sum_ranked(list))
 }
 
 // The first places, as many as a list by value has.
@@ -191,54 +194,55 @@ fn first_of(list: [Candidate; PLACES]) -> [Candidate; Design::K] {
 }
 
 // Enters c into the lent places, and into the first places by value, in both forms.
-fn enter_all(list: [Candidate; PLACES], len: usize, count: usize, c: Candidate)
+fn enter_all(
+    out: &Stdout,
+    list: [Candidate; PLACES],
+    len: usize,
+    count: usize,
+    c: Candidate,
+) -> io::Result<()>
     requires { len ≤ 24 }
 {
-    show_lent(enter_front(list, len, count, c));
+    show_lent(out, enter_front(list, len, count, c))?;
     let first = first_of(list);
-    show_ranked(ranked::enter_array(first, count, c));
-    show_ranked(ranked::enter_in(first, count, c));
-    io::write_all(STDOUT_FILENO, b"\n");
+    show_ranked(out, ranked::enter_array(first, count, c))?;
+    show_ranked(out, ranked::enter_in(first, count, c))?;
+    print!(out; "\n")
 }
 
 // One stored list: the places lent, the count, the newcomer, the records.
-fn one_case(bytes: &[u8]) {
+fn one_case(out: &Stdout, bytes: &[u8]) -> io::Result<()> {
     let len = stored::cut(stored::number_at(bytes, 0), PLACES);
     let second = stored::behind(bytes, 0);
     let count = word_at(bytes, second) as usize;
     let third = behind_numbers(bytes, second, 2);
     let c = record_at(bytes, third);
     let list = list_at(bytes, behind_numbers(bytes, third, 7));
-    enter_all(list, len, count, c);
+    enter_all(out, list, len, count, c)
 }
 
 // The next stored list.
-fn next_case(fd: i32, space: &mut [u8]) {
-    let n = stored::cut(stored::next_length(fd), space.len());
-    let got = io::read_full(fd, &mut space[..n]);
-    if got == n {
-        one_case(&space[..n]);
+fn next_case(input: &mut File, out: &Stdout, space: &mut [u8]) -> io::Result<()> {
+    let n = stored::cut(stored::next_length(input), space.len());
+    if stored::read_full(input, &mut space[..n]) {
+        one_case(out, &space[..n])?;
     }
+    Ok(())
 }
 
 // Every stored list in turn.
-fn all_cases(fd: i32) {
+fn all_cases(input: &mut File, out: &Stdout) -> io::Result<()> {
     let mut space = stored::space();
-    let cases = stored::next_length(fd);
+    let cases = stored::next_length(input);
     let mut i = 0;
     while i < cases {
-        next_case(fd, &mut space);
+        next_case(input, out, &mut space)?;
         i += 1;
     }
+    Ok(())
 }
 
-fn main() {
-    let path = b"lists";
-    let fd = os::open_read(path);
-    if fd < 0 {
-        os::fail(path);
-        return;
-    }
-    all_cases(fd);
-    libc::close(fd);
+fn main(rt: HostRuntime) -> io::Result<()> {
+    let mut input = File::open(&rt, "lists")?;
+    all_cases(&mut input, &rt.stdout())
 }

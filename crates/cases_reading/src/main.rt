@@ -1,8 +1,11 @@
 // Gives each text stored in data/texts to the reader and prints what it answers. What it must print is stored in `stdout`, made by
 // reference/stored_reading.py from the second implementation.
+#![tactic(auto)]
+
 ghost use Rattle.std.specs.Prelude.{◌≡◌, length};
 
-use libc::STDOUT_FILENO;
+use std::fs::File;
+use std::io::{self, Stdout};
 use stored::{mix, print_number};
 use timing::Reading;
 
@@ -40,18 +43,18 @@ fn fill(room: &mut [u32]) {
 }
 
 // Prints what reading answers.
-fn show(answer: Reading) {
+fn show(out: &Stdout, answer: Reading) -> io::Result<()> {
     match answer {
         Reading::Read { length, mode, k } => {
-            io::write_all(STDOUT_FILENO, b"read");
-            print_number(length as u64);
-            print_number(mode as u64);
-            print_number(k as u64);
+            print!(out; "read")?;
+            print_number(out, length as u64)?;
+            print_number(out, mode as u64)?;
+            print_number(out, k as u64)
         }
         Reading::Refused(r) => {
-            io::write_all(STDOUT_FILENO, b"refused");
-            print_number(timing::number_of(r) as u64);
-            print_number(timing::place_of(r) as u64);
+            print!(out; "refused")?;
+            print_number(out, timing::number_of(r) as u64)?;
+            print_number(out, timing::place_of(r) as u64)
         }
     }
 }
@@ -84,32 +87,32 @@ fn sum_lines(bytes: &[u8], from: usize, count: usize, text: &[u8]) -> u64 {
 }
 
 // Reads a text into a room and prints the answer and the room afterwards.
-fn read_into(text: &[u8], room: &mut [u32]) {
+fn read_into(out: &Stdout, text: &[u8], room: &mut [u32]) -> io::Result<()> {
     fill(room);
-    show(reader::read(text, room));
-    print_number(sum_room(room));
+    show(out, reader::read(text, room))?;
+    print_number(out, sum_room(room))
 }
 
 // One stored text: the answer, the room afterwards, the lines given back.
-fn one_case(bytes: &[u8], room: &mut [u32]) {
+fn one_case(out: &Stdout, bytes: &[u8], room: &mut [u32]) -> io::Result<()> {
     let size = stored::cut(stored::number_at(bytes, 0), room.len());
     let second = stored::behind(bytes, 0);
     let count = stored::cut(stored::number_at(bytes, second), 100);
     let lines = stored::behind(bytes, second);
     let start = stored::on(bytes, behind_numbers(bytes, lines, count), 0);
     let text = &bytes[start..];
-    read_into(text, &mut room[..size]);
-    print_number(sum_lines(bytes, lines, count, text));
-    io::write_all(STDOUT_FILENO, b"\n");
+    read_into(out, text, &mut room[..size])?;
+    print_number(out, sum_lines(bytes, lines, count, text))?;
+    print!(out; "\n")
 }
 
 // The next stored text.
-fn next_case(fd: i32, space: &mut [u8], room: &mut [u32]) {
-    let n = stored::cut(stored::next_length(fd), space.len());
-    let got = io::read_full(fd, &mut space[..n]);
-    if got == n {
-        one_case(&space[..n], room);
+fn next_case(input: &mut File, out: &Stdout, space: &mut [u8], room: &mut [u32]) -> io::Result<()> {
+    let n = stored::cut(stored::next_length(input), space.len());
+    if stored::read_full(input, &mut space[..n]) {
+        one_case(out, &space[..n], room)?;
     }
+    Ok(())
 }
 
 fn table_room() -> [u32; 5200]
@@ -119,24 +122,19 @@ fn table_room() -> [u32; 5200]
 }
 
 // Every stored text in turn.
-fn all_cases(fd: i32) {
+fn all_cases(input: &mut File, out: &Stdout) -> io::Result<()> {
     let mut space = stored::space();
     let mut room = table_room();
-    let cases = stored::next_length(fd);
+    let cases = stored::next_length(input);
     let mut i = 0;
     while i < cases {
-        next_case(fd, &mut space, &mut room);
+        next_case(input, out, &mut space, &mut room)?;
         i += 1;
     }
+    Ok(())
 }
 
-fn main() {
-    let path = b"texts";
-    let fd = os::open_read(path);
-    if fd < 0 {
-        os::fail(path);
-        return;
-    }
-    all_cases(fd);
-    libc::close(fd);
+fn main(rt: HostRuntime) -> io::Result<()> {
+    let mut input = File::open(&rt, "texts")?;
+    all_cases(&mut input, &rt.stdout())
 }

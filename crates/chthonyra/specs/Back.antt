@@ -2,7 +2,7 @@
 -- operations behind them, and decide the result and the memory as those do.
 -- Assumes nothing.
 use Rattle.std.specs.Prelude.{ℕ, ◌≡◌, refl, false, List, [], ◌∷◌, length, get_or, eqb, ℤ}
-use Rattle.std.proofs.Common.{sym, ◌∙◌}
+use Rattle.std.proofs.Common.{sym, ap, ◌∙◌}
 use Rattle.lists.specs.Choice.{pick}
 use Rattle.timing.specs.declared.Refusal.{Refusal}
 use Rattle.timing.specs.declared.Refusal.TheVariants.{TextLong, LineNotDue, FieldCount, FieldForm, TableRoom, TableHeader, PinNumbers, RootCount, ArcEnds, ArcKinds, ArcRange, ArcsInto, TestNumbers, ModeOrK, RowRoom, ListCount}
@@ -78,13 +78,18 @@ never-0 ListCount = refl
 
 -- ---- the answers from what they tell
 
+-- the second of two, where the number is not the one that means an answer
+refused-back : {A : Type 0} (n : ℕ) (x y z : A) → eqb n 0 ≡ false → y ≡ z → pick (eqb n 0) x y ≡ z
+unfolding pick
+refused-back n x y z h e = rw h e
+
 unfoldable pub reading_from : ReadingTold → Reading
 reading_from t = pick (eqb t.refusal 0) (Read t.length t.mode t.k) (NotRead (refusal_at t.refusal t.place))
 
 pub reading-back : (x : Reading) → reading_from (reading_told x) ≡ x
 unfolding reading_from pick
 reading-back (Read n m k) = refl
-reading-back (NotRead r) = rw (never-0 r, refusal-back r) refl
+reading-back (NotRead r) = refused-back (number_of r) (Read 0 0 0) _ _ (never-0 r) (ap NotRead (refusal-back r))
 
 unfoldable pub checked_from : CheckedTold → Checked
 checked_from t = pick (eqb t.refusal 0) Fine (NotFine (refusal_at t.refusal t.place))
@@ -92,7 +97,7 @@ checked_from t = pick (eqb t.refusal 0) Fine (NotFine (refusal_at t.refusal t.pl
 pub checked-back : (x : Checked) → checked_from (checked_told x) ≡ x
 unfolding checked_from pick
 checked-back Fine = refl
-checked-back (NotFine r) = rw (never-0 r, refusal-back r) refl
+checked-back (NotFine r) = refused-back (number_of r) Fine _ _ (never-0 r) (ap NotFine (refusal-back r))
 
 unfoldable pub answer_from : AnswerTold → Answer
 answer_from t = pick (eqb t.refusal 0) (Given t.rows t.total) (NotGiven (refusal_at t.refusal t.place))
@@ -100,7 +105,7 @@ answer_from t = pick (eqb t.refusal 0) (Given t.rows t.total) (NotGiven (refusal
 pub answer_back : (x : Answer) → answer_from (answer_told x) ≡ x
 unfolding answer_from pick
 answer_back (Given rows total) = refl
-answer_back (NotGiven r) = rw (never-0 r, refusal-back r) refl
+answer_back (NotGiven r) = refused-back (number_of r) (Given 0 0) _ _ (never-0 r) (ap NotGiven (refusal-back r))
 
 unfoldable pub entered_from : EnteredTold → Entered
 entered_from t = pick (eqb t.refusal 0) (Count t.count) (NotEntered (refusal_at t.refusal t.place))
@@ -108,7 +113,7 @@ entered_from t = pick (eqb t.refusal 0) (Count t.count) (NotEntered (refusal_at 
 pub entered-back : (x : Entered) → entered_from (entered_told x) ≡ x
 unfolding entered_from pick
 entered-back (Count n) = refl
-entered-back (NotEntered r) = rw (never-0 r, refusal-back r) refl
+entered-back (NotEntered r) = refused-back (number_of r) (Count 0) _ _ (never-0 r) (ap NotEntered (refusal-back r))
 
 -- ---- the contracts decide
 

@@ -1,5 +1,7 @@
 // The library for C and Rust callers: the operations under names of C. A slice crosses as a pointer and a length; an answer, which is an enum inside,
 // crosses as a struct of numbers in which refusal 0 means that the operation answered.
+#![tactic(auto)]
+
 ghost use Rattle.std.specs.Prelude.{◌≡◌, length};
 ghost use Rattle.timing.specs.Refusals.{checked_of};
 ghost use Rattle.timing.specs.Check.{table_fault};
@@ -12,7 +14,7 @@ use timing::{Answer, Candidate, Checked, Entered, Reading};
 
 // What a reading tells: the refusal's number and place, or the table's length, the mode and k.
 #[repr(C)]
-#[derive(Drop)]
+#[derive(Clone, Copy)]
 pub struct ReadingTold {
     pub refusal: u32,
     pub mode: u32,
@@ -23,7 +25,7 @@ pub struct ReadingTold {
 
 // Where a line stands in its text: the offset of its first byte, and its length without byte 10.
 #[repr(C)]
-#[derive(Drop)]
+#[derive(Clone, Copy)]
 pub struct LineTold {
     pub start: usize,
     pub length: usize,
@@ -31,7 +33,7 @@ pub struct LineTold {
 
 // What a check tells: the refusal's number and place.
 #[repr(C)]
-#[derive(Drop)]
+#[derive(Clone, Copy)]
 pub struct CheckedTold {
     pub refusal: u32,
     pub place: usize,
@@ -39,7 +41,7 @@ pub struct CheckedTold {
 
 // What an asking tells: the refusal's number and place, or rows given and total.
 #[repr(C)]
-#[derive(Drop)]
+#[derive(Clone, Copy)]
 pub struct AnswerTold {
     pub refusal: u32,
     pub place: usize,
@@ -49,7 +51,7 @@ pub struct AnswerTold {
 
 // What entering a record tells: the refusal's number and place, or the new count.
 #[repr(C)]
-#[derive(Drop)]
+#[derive(Clone, Copy)]
 pub struct EnteredTold {
     pub refusal: u32,
     pub place: usize,

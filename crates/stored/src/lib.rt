@@ -1,7 +1,10 @@
 // What the case programs share: numbers in stored data, a sum over what is left in lent memory, printing.
+#![tactic(auto)]
+
 ghost use Rattle.std.specs.Prelude.{◌≡◌, ◌+◌, ◌*◌, ◌%◌, ◌≤◌, ◌<◌, min, length};
 
-use libc::STDOUT_FILENO;
+use std::fs::File;
+use std::io::{self, Read, Stdout};
 
 // Room for one record of stored data.
 pub fn space() -> [u8; 66000]
@@ -10,12 +13,17 @@ pub fn space() -> [u8; 66000]
     [0; 66000]
 }
 
-// The next length in the stored data: four bytes, the lowest first.
-pub fn next_length(fd: i32) -> u64
+// Fills the buffer from the stored data; answers whether there was enough of it.
+pub fn read_full(stored: &mut File, buf: &mut [u8]) -> bool {
+    stored.read_exact(buf).is_ok()
+}
+
+// The next length in the stored data: four bytes, the lowest first. What is not there counts as 0.
+pub fn next_length(stored: &mut File) -> u64
     ensures { result < 4294967296 }
 {
     let mut four = [0u8; 4];
-    io::read_full(fd, &mut four);
+    read_full(stored, &mut four);
     wide(four[0]) + 256 * wide(four[1]) + 65536 * wide(four[2]) + 16777216 * wide(four[3])
 }
 
@@ -107,7 +115,6 @@ pub fn mix(total: u64, value: u64) -> u64
 }
 
 // A tab and a number.
-pub fn print_number(n: u64) {
-    io::write_all(STDOUT_FILENO, b"\t");
-    io::print_decimal(STDOUT_FILENO, n);
+pub fn print_number(out: &Stdout, n: u64) -> io::Result<()> {
+    print!(out; "\t{n}")
 }

@@ -4,8 +4,8 @@ use Rattle.std.specs.Prelude.{ℕ, ◌≤◌, ◌≡◌, refl, List, [], length,
 use Rattle.std.proofs.Math.Option.{Option, none, some}
 use Rattle.std.proofs.Common.{arith, ltb-false}
 use Rattle.lists.specs.Parts.{gather, below}
-use Rattle.lists.specs.Laws.Unmet.{unmet-none, unmet-first, unmet-rest, unmet-right}
-use Rattle.lists.specs.Laws.Write.{written-front}
+use Rattle.lists.proofs.Laws.Unmet.{unmet-none, unmet-first, unmet-rest, unmet-right}
+use Rattle.lists.proofs.Laws.Write.{written-front}
 use Rattle.timing.specs.declared.Refusal.{Refusal}
 use Rattle.timing.specs.declared.Refusal.TheVariants.{TableRoom}
 use Rattle.timing.specs.declared.Reading.TheVariants.{Read, Refused}
@@ -18,9 +18,9 @@ use Rattle.timing.specs.Field.{Bytes}
 use Rattle.timing.specs.Line.{design_line}
 use Rattle.timing.specs.Text.{table_length, table_of, mode_asked, k_asked, text_fault, text_grounds, line_grounds, due_grounds, ask_grounds, ask_number, lines_due, reading_of, reading, filled_of, room_filled}
 use Rattle.timing.specs.Printed.{table_room, row_room, printed_answer, printed_table, printed_reading, printed}
-use Rattle.timing.specs.Laws.Lines.{table-length}
+use Rattle.timing.proofs.Laws.Lines.{table-length}
 use Rattle.printing.specs.Room.{printed_room}
-use Rattle.printing.specs.Asking.{printed-room}
+use Rattle.printing.proofs.Asking.{printed-room}
 
 -- a text that is not refused leaves room for its table
 pub fits : (x : Bytes) (room : ℕ) → text_fault x room ≡ none → table_length x ≤ room

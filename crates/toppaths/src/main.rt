@@ -1,11 +1,13 @@
 // The program: reads a text on standard input and prints the worst paths of its design, or why it is refused.
+#![tactic(auto)]
+
 ghost use Rattle.std.specs.Prelude.{◌≡◌, ◌+◌, ◌≤◌, length};
 ghost use Rattle.lists.specs.Laws.Write.{sets};
 ghost use Rattle.timing.specs.Limits.{work_length};
 ghost use Rattle.timing.specs.Printed.{table_room, row_room, printed_table, printed};
 ghost use Rattle.printing.specs.Put.{counted};
 
-use libc::{STDIN_FILENO, STDOUT_FILENO};
+use std::io::{Print, Read, Stdin, Stdout};
 use timing::{Answer, Reading};
 
 // The bytes to print for a text, at the front of `out`, as many as fit; answers how many they are. They are a function of the text alone.
@@ -81,45 +83,48 @@ fn print_room() -> [u8; 32768]
     [0; 32768]
 }
 
-// Prints what a text is answered.
-fn run(text: &[u8]) {
+// Prints what a text is answered. Where a write fails, nothing more is written.
+fn run(text: &[u8], stdout: &Stdout) {
     let mut table = table_room();
     let mut room = row_room();
     let mut work = work_area();
     let mut out = print_room();
     let n = answer(text, &mut table, &mut room, &mut work, &mut out);
     let fits = least(n, 32768);
-    io::write_all(STDOUT_FILENO, &out[..fits]);
+    let _ = stdout.write_all(&out[..fits]);
 }
 
 // What was read: how many bytes, and whether no read failed.
-#[derive(Drop)]
+#[derive(Clone, Copy)]
 struct Input {
     bytes: usize,
     whole: bool,
 }
 
 // One read into the text, from a place on; 0 bytes at the end of the input.
-fn read_more(text: &mut [u8], from: usize) -> Input
+fn read_more(stdin: &mut Stdin, text: &mut [u8], from: usize) -> Input
     requires { from ≤ length text.old }
     ensures { from + result.bytes ≤ length text.old }
 {
-    let end = text.len();
-    let got = libc::read(STDIN_FILENO, &mut text[from..end]);
-    let bytes = io::count(got, &text[from..end]);
-    Input {
-        bytes: bytes,
-        whole: 0 <= got,
+    match stdin.read(&mut text[from..]) {
+        Ok(bytes) => Input {
+            bytes: bytes,
+            whole: true,
+        },
+        Err(_) => Input {
+            bytes: 0,
+            whole: false,
+        },
     }
 }
 
 // Reads standard input into the text until it is full, the input ends or a read fails.
-fn read_text(text: &mut [u8]) -> Input
+fn read_text(stdin: &mut Stdin, text: &mut [u8]) -> Input
     ensures { result.bytes ≤ length text.old }
 {
     let mut done = 0;
     while done < text.len() {
-        let more = read_more(text, done);
+        let more = read_more(stdin, text, done);
         let n = more.bytes;
         if n == 0 {
             return Input {
@@ -136,11 +141,12 @@ fn read_text(text: &mut [u8]) -> Input
 }
 
 // A read that fails ends the program with nothing printed: a part of a text is no text.
-fn main() {
+fn main(rt: HostRuntime) {
+    let mut stdin = rt.stdin();
     let mut text = text_room();
-    let input = read_text(&mut text);
+    let input = read_text(&mut stdin, &mut text);
     let n = input.bytes;
     if input.whole {
-        run(&text[..n]);
+        run(&text[..n], &rt.stdout());
     }
 }
