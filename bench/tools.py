@@ -12,8 +12,8 @@ from pathlib import Path
 
 ROOT = Path(__file__).resolve().parent.parent
 BUILT = ROOT / "target" / "bench"
-PROGRAM = ROOT / "target" / "bin" / "toppaths"
-ARCHIVE = ROOT / "target" / "staticlib" / "libchthonyra.a"
+PROGRAM = ROOT / "crates" / "toppaths" / "out" / "toppaths"
+ARCHIVE = ROOT / "crates" / "chthonyra" / "out" / "libchthonyra.a"
 HEADER = ROOT / "include" / "chthonyra.h"
 
 # AVX2, but no AVX-512: valgrind does not know that.
@@ -48,7 +48,7 @@ def built(command, target):
 def program():
     """The proved program."""
     if not PROGRAM.exists():
-        raise Absent("target/bin/toppaths is not built: rt check toppaths")
+        raise Absent("crates/toppaths/out/toppaths is not built: rt run in crates/toppaths")
     return PROGRAM
 
 
@@ -60,7 +60,7 @@ def fast():
 def call(archive=ARCHIVE, name="call"):
     """A C program that calls the proved library."""
     if not (archive.exists() and HEADER.exists()):
-        raise Absent("the library for C is not built: rt staticlib chthonyra")
+        raise Absent("the library for C is not built: rt lib in crates/chthonyra")
     return built(["gcc", *C_FLAGS, f"-I{HEADER.parent}", ROOT / "bench" / "call.c", archive], BUILT / name)
 
 

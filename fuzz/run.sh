@@ -6,7 +6,7 @@
 #     fuzz/run.sh long COUNT [SEED]      by hand: the same with another count and seed
 #     fuzz/run.sh valgrind COUNT [SEED]  by hand: under valgrind's memcheck, which looks into the archive's code too
 #
-# It takes target/staticlib/libchthonyra.a as it is, and has it built where it is absent. The driver and the model are
+# It takes crates/chthonyra/out/libchthonyra.a as it is, and has it built where it is absent. The driver and the model are
 # compiled with gcc's checkers of addresses and of undefined behaviour; the archive is not, and is held by the guard pages.
 # The last line is 'N passed, 0 failed'.
 set -euo pipefail
@@ -21,8 +21,8 @@ case "$what" in
 esac
 
 command -v gcc >/dev/null 2>&1 || { apt-get update -qq && apt-get install -y -qq gcc libc6-dev; }
-archive=target/staticlib/libchthonyra.a
-[ -f "$archive" ] || rt staticlib chthonyra
+archive=crates/chthonyra/out/libchthonyra.a
+[ -f "$archive" ] || (cd crates/chthonyra && rt lib)
 made=target/fuzz
 mkdir -p "$made"
 words=(-std=gnu11 -O1 -g -Wall -Wextra -Werror -Iinclude fuzz/*.c "$archive")

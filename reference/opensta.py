@@ -1,6 +1,6 @@
 """Compares the slacks of `toppaths` with those of OpenSTA, a timing analyser that nobody of this project wrote (Debian package `opensta`).
 
-    python3 -B reference/opensta.py target/bin/toppaths [--designs N] [--required]
+    python3 -B reference/opensta.py crates/toppaths/out/toppaths [--designs N] [--required]
     python3 -B reference/opensta.py --show FILE
 
 The first form makes N random designs (default 320), asks each for setup and for hold with a random k, and compares the slacks of the first k after credit, in

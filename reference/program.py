@@ -1,6 +1,6 @@
 """Runs the proved program over texts and holds what it prints to what is expected of it.
 
-    python3 reference/program.py target/bin/toppaths
+    python3 reference/program.py crates/toppaths/out/toppaths
 
 The stored cases have their expected output beside them; of every other text the second implementation says what must be printed. Texts: the stored cases, the
 texts of `stored_reading` whole and damaged, and random designs in both modes. The last line is 'N passed, 0 failed'; exit status 1 if any failed.

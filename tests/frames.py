@@ -1,6 +1,6 @@
 """Measures the stack of the library: builds the archive, disassembles it, and says how many bytes each routine uses.
 
-    python3 -B tests/frames.py [--built]      --built: the archive of the last `rt staticlib chthonyra` is taken as it is
+    python3 -B tests/frames.py [--built]      --built: the archive of the last `rt lib` in crates/chthonyra is taken as it is
 
 A routine's frame is all that it pushes and all that it takes off the stack pointer, at the deepest point of any way through it, with what it touches below the
 stack pointer; the return address is not in it. No frame may be above 2,048 bytes. The way through a routine is followed instruction by instruction, so a
@@ -14,7 +14,8 @@ import subprocess
 import sys
 
 ROOT = os.path.dirname(os.path.dirname(os.path.abspath(__file__)))
-ARCHIVE = os.path.join(ROOT, "target", "staticlib", "libchthonyra.a")
+LIBRARY = os.path.join(ROOT, "crates", "chthonyra")
+ARCHIVE = os.path.join(LIBRARY, "out", "libchthonyra.a")
 MOST_FRAME = 2048
 MOST_ARRAY = 1024
 
@@ -33,9 +34,9 @@ class Routine:
         self.calls = set()
 
 
-def output_of(words):
-    """What a command prints; it must succeed."""
-    return subprocess.run(words, cwd=ROOT, check=True, stdout=subprocess.PIPE, stderr=subprocess.STDOUT).stdout.decode()
+def output_of(words, folder=ROOT):
+    """What a command prints in a folder; it must succeed."""
+    return subprocess.run(words, cwd=folder, check=True, stdout=subprocess.PIPE, stderr=subprocess.STDOUT).stdout.decode()
 
 
 def routines_in(listing):
@@ -149,7 +150,7 @@ def arrays():
 def main():
     """Measure, and hold the figures to their bounds."""
     if "--built" not in sys.argv[1:]:
-        output_of(["rt", "staticlib", "chthonyra"])
+        output_of(["rt", "lib"], LIBRARY)
     found = routines_in(output_of(["objdump", "-dr", "--no-show-raw-insn", ARCHIVE]))
     code = [name for kind, name in re.findall(r"^[0-9a-f]+ ([tT]) (.+)$", output_of(["nm", ARCHIVE]), re.M)]
     if sorted(code) != sorted(routine.name for routine in found) or not found:

@@ -2,8 +2,7 @@
 
     python3 -B tests/library.py
 
-It wants what `rt ci` leaves in target/. gcc and cargo are installed by apt-get where they are absent; without them it fails. Steps: `rt staticlib`; the C
-program and the C tests compiled with every warning an error, and run; the Rust crate's own tests, with no network; both examples run over texts. The last
+gcc and cargo are installed by apt-get where they are absent; without them it fails. Steps: `rt lib` in crates/chthonyra; the C program and the C tests compiled with every warning an error, and run; the Rust crate's own tests, with no network; both examples run over texts. The last
 line is 'N passed, 0 failed'; exit status 1 if any failed.
 """
 
@@ -21,7 +20,8 @@ import toppaths  # noqa: E402
 from program import wanted_prints  # noqa: E402
 
 MADE = os.path.join(ROOT, "target", "library")
-ARCHIVE = os.path.join(ROOT, "target", "staticlib", "libchthonyra.a")
+LIBRARY = os.path.join(ROOT, "crates", "chthonyra")
+ARCHIVE = os.path.join(LIBRARY, "out", "libchthonyra.a")
 WARNINGS = ["-std=c11", "-O2", "-Wall", "-Wextra", "-Werror", "-pedantic", "-I" + os.path.join(ROOT, "include")]
 
 
@@ -104,7 +104,7 @@ def main():
     need("gcc", "gcc", "libc6-dev")
     need("cargo", "cargo")
     os.makedirs(MADE, exist_ok=True)
-    must(["rt", "staticlib", "chthonyra"], cwd=ROOT)
+    must(["rt", "lib"], cwd=LIBRARY)
     passed = rust_tests()
     print(f"the Rust crate: {passed} tests")
     tests = must([compiled("buffers", "tests/buffers.c")]).decode()
