@@ -2,7 +2,8 @@
 
     python3 -B tests/library.py
 
-gcc and cargo are installed by apt-get where they are absent; without them it fails. Steps: `rt lib` in crates/chthonyra; the C program and the C tests compiled with every warning an error, and run; the Rust crate's own tests, with no network; both examples run over texts. The last
+gcc and cargo are installed by apt-get where they are absent; without them it fails. Steps: `rt lib` in crates/chthonyra; the C
+program and the C tests compiled with every warning an error, and run; the Rust crate's own tests, with no network; both examples run over texts. The last
 line is 'N passed, 0 failed'; exit status 1 if any failed.
 """
 

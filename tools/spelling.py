@@ -53,10 +53,10 @@ withArc with_arc; withClocking with_clocking; withEnds with_ends; withSeed with_
 workLength work_length; workOf work_of
 """
 
-# lemmas and fields whose name would be that of a function: the folder, what stands before the name, old, new
+# lemmas and fields whose name would be that of a function: the folder, old, new
 APART = [
-    ("crates/walker/specs/", "(?<![\w-])(?<!\bok\.)", "from_in", "from-in"),
-    ("crates/walker/specs/", "(?<![\w-])", "walk_at", "walk-at"),
+    ("crates/walker/specs/", "from_in", "from-in"),
+    ("crates/walker/specs/", "walk_at", "walk-at"),
 ]
 
 # A module of specs/ may not be called Contracts: its file and the paths to it.
@@ -101,9 +101,9 @@ def main():
     for path, text in texts.items():
         new = text
         where = os.path.relpath(path, top)
-        for folder, before, old, to in APART:
+        for folder, old, to in APART:
             if where.startswith(folder) and path.endswith(".antt"):
-                new = re.sub(rf"{before}{old}(?![\w'-])", to, new)
+                new = re.sub(rf"(?<![\w-]){old}(?![\w'-])", to, new)
         for old, to in PATHS:
             new = new.replace(old, to)
         new = turned(new, names)

@@ -1,2 +1,2 @@
-// The customer's demands as theorems, in specs/; no code.
+// The customer's demands as theorems, in proofs/, over what they say, in specs/; no code.
 #![tactic(auto)]

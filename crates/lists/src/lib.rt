@@ -1,2 +1,2 @@
-// Definitions and laws of lists and of ranking, in specs/; no code.
+// Lists and ranking: definitions in specs/, their laws in proofs/; no code.
 #![tactic(auto)]
