@@ -5,7 +5,7 @@
 ghost use Rattle.std.specs.Prelude.{◌≡◌, length};
 
 use std::fs::File;
-use std::io::{self, Stdout};
+use std::io::{self, Read, Stdout};
 use stored::{mix, print_number};
 use timing::Answer;
 
@@ -135,7 +135,7 @@ fn next_case(
     work: &mut [u64],
 ) -> io::Result<()> {
     let n = stored::cut(stored::next_length(input), space.len());
-    if stored::read_full(input, &mut space[..n]) {
+    if input.read_exact(&mut space[..n]).is_ok() {
         one_case(out, &space[..n], table, room, work)?;
     }
     Ok(())

@@ -7,7 +7,7 @@ ghost use Rattle.timing.specs.Ranked.{enter_answer, list_after};
 
 use ranked::Ranked;
 use std::fs::File;
-use std::io::{self, Stdout};
+use std::io::{self, Read, Stdout};
 use stored::{mix, print_number};
 use timing::{Candidate, Design, Entered};
 
@@ -224,7 +224,7 @@ fn one_case(out: &Stdout, bytes: &[u8]) -> io::Result<()> {
 // The next stored list.
 fn next_case(input: &mut File, out: &Stdout, space: &mut [u8]) -> io::Result<()> {
     let n = stored::cut(stored::next_length(input), space.len());
-    if stored::read_full(input, &mut space[..n]) {
+    if input.read_exact(&mut space[..n]).is_ok() {
         one_case(out, &space[..n])?;
     }
     Ok(())

@@ -5,7 +5,7 @@
 ghost use Rattle.std.specs.Prelude.{◌≡◌, length};
 
 use std::fs::File;
-use std::io::{self, Stdout};
+use std::io::{self, Read, Stdout};
 use stored::{mix, print_number};
 use timing::Reading;
 
@@ -109,7 +109,7 @@ fn one_case(out: &Stdout, bytes: &[u8], room: &mut [u32]) -> io::Result<()> {
 // The next stored text.
 fn next_case(input: &mut File, out: &Stdout, space: &mut [u8], room: &mut [u32]) -> io::Result<()> {
     let n = stored::cut(stored::next_length(input), space.len());
-    if stored::read_full(input, &mut space[..n]) {
+    if input.read_exact(&mut space[..n]).is_ok() {
         one_case(out, &space[..n], room)?;
     }
     Ok(())

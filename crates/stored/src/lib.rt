@@ -13,17 +13,12 @@ pub fn space() -> [u8; 66000]
     [0; 66000]
 }
 
-// Fills the buffer from the stored data; answers whether there was enough of it.
-pub fn read_full(stored: &mut File, buf: &mut [u8]) -> bool {
-    stored.read_exact(buf).is_ok()
-}
-
 // The next length in the stored data: four bytes, the lowest first. What is not there counts as 0.
 pub fn next_length(stored: &mut File) -> u64
     ensures { result < 4294967296 }
 {
     let mut four = [0u8; 4];
-    read_full(stored, &mut four);
+    let _ = stored.read_exact(&mut four);
     wide(four[0]) + 256 * wide(four[1]) + 65536 * wide(four[2]) + 16777216 * wide(four[3])
 }
 
