@@ -1,13 +1,12 @@
 -- An asking: its answer, and the lent room and work area afterwards, as functions of what was given.
 -- Assumes nothing.
-use Rattle.std.specs.Prelude.{ℕ, ◌*◌, Bool, ◌||◌, List, [], ◌∷◌, ◌++◌, length, replicate, eqb, ltb, ℤ}
+use Rattle.std.specs.Prelude.{ℕ, ◌*◌, Bool, ◌||◌, List, [], ◌∷◌, ◌++◌, length, replicate, eqb, ltb, ℤ, Result, Ok, Err}
 use Rattle.std.proofs.Math.Option.{Option, none, some}
 use Rattle.lists.specs.Choice.{Ground, ground, first_met}
 use Rattle.lists.specs.Parts.{gather, written}
 use Rattle.timing.specs.declared.Refusal.{Refusal}
 use Rattle.timing.specs.declared.Refusal.TheVariants.{ModeOrK, RowRoom}
 use Rattle.timing.specs.declared.Answer.{Answer}
-use Rattle.timing.specs.declared.Answer.TheVariants.{Given, Refused}
 use Rattle.timing.specs.Limits.{most_k, work_length}
 use Rattle.timing.specs.Table.{Table, pin_count}
 use Rattle.timing.specs.Structure.{structure, times}
@@ -40,11 +39,11 @@ unfoldable pub table_rows : Table → ℕ → ℕ → List (List ℤ)
 table_rows t mode k = rows (mode_of mode) (structure t) (times t) k
 
 -- "It returns rows given and total."
-unfoldable pub answer_of : Option Refusal → Table → ℕ → ℕ → Answer
-answer_of (some r) t mode k = Refused r
-answer_of none t mode k = Given (length (table_rows t mode k)) (total (structure t))
+unfoldable pub answer_of : Option Refusal → Table → ℕ → ℕ → Result Answer Refusal
+answer_of (some r) t mode k = Err r
+answer_of none t mode k = Ok (record { rows = length (table_rows t mode k); total = total (structure t) })
 
-unfoldable pub answer : Table → ℕ → ℕ → ℕ → ℕ → Answer
+unfoldable pub answer : Table → ℕ → ℕ → ℕ → ℕ → Result Answer Refusal
 answer t mode k room work = answer_of (asking_fault t mode k room work) t mode k
 
 -- ---- the memory: "every lent buffer stays unwritten" on a refusal

@@ -1,11 +1,12 @@
 -- Bytes and fields: what a field says, apart from the line that it stands in.
 -- Assumes nothing.
-use Rattle.std.specs.Prelude.{ℕ, ◌+◌, ◌-◌, ◌*◌, Bool, not, ◌&&◌, ◌||◌, List, [], ◌∷◌, length, get_or, eqb, leb}
+use Rattle.std.specs.Prelude.{ℕ, ◌+◌, ◌-◌, ◌*◌, Bool, not, ◌&&◌, ◌||◌, List, [], ◌∷◌, length, get_or, eqb, leb, ◌≡◌, Option, MatchOption}
 use Prim.Native.Char.{code}
 use Prim.Native.String.{String}
 use Rattle.lists.specs.Choice.{pick}
 use Rattle.lists.specs.Parts.{every, same}
-use Rattle.timing.specs.Kinds.{R, B, K, I, D}
+use Rattle.timing.specs.declared.Kind.{Kind}
+use Rattle.timing.specs.Kinds.{R, B, K, I, D, kind_number}
 
 abbrev pub Bytes : Type 0
 Bytes = List ℕ
@@ -76,6 +77,10 @@ no_kind = 5
 -- the letters R, B, K, I, D
 abbrev pub kind_of : ℕ → ℕ
 kind_of b = pick (eqb b 82) R (pick (eqb b 66) B (pick (eqb b 75) K (pick (eqb b 73) I (pick (eqb b 68) D no_kind))))
+
+-- the kind that a byte names, if it names one
+abbrev pub Letters : ℕ → Option Kind → Type 0
+Letters b r = MatchOption r (kind_of b ≡ no_kind) (λ k. kind_number k ≡ kind_of b)
 
 unfoldable pub letter : Bytes → ℕ
 letter f = pick (eqb (length f) 1) (kind_of (get_or f 0 0)) no_kind

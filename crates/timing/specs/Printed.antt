@@ -2,15 +2,13 @@
 -- "It prints for each row `path`, rank, slack, credit, test, start and the arcs from the start; then `end`, rows and total; tabs between. On a refusal
 -- it prints one line only: `refused`, number, place, with tabs between."
 -- Assumes nothing.
-use Rattle.std.specs.Prelude.{ℕ, zero, suc, ◌+◌, ◌*◌, ◌/◌, ◌%◌, List, [], ◌∷◌, ◌++◌, get_or, take, drop, ltb, ℤ, pos, negsuc}
+use Rattle.std.specs.Prelude.{ℕ, zero, suc, ◌+◌, ◌*◌, ◌/◌, ◌%◌, List, [], ◌∷◌, ◌++◌, get_or, take, drop, ltb, ℤ, pos, negsuc, Result, Ok, Err}
 use Rattle.lists.specs.Choice.{pick}
 use Rattle.lists.specs.Parts.{gather}
 use Rattle.lists.specs.Laws.Integer.{up}
 use Rattle.timing.specs.declared.Refusal.{Refusal}
 use Rattle.timing.specs.declared.Reading.{Reading}
-use Rattle.timing.specs.declared.Reading.TheVariants.{Read, Refused}
 use Rattle.timing.specs.declared.Answer.{Answer}
-use Rattle.timing.specs.declared.Answer.TheVariants.{Given, Refused as NotGiven}
 use Rattle.timing.specs.Limits.{most_pins, most_arcs, most_tests, most_k, work_length}
 use Rattle.timing.specs.Refusals.{number_of, place_of}
 use Rattle.timing.specs.Table.{Table, length_for}
@@ -60,9 +58,9 @@ refused_line r = printed_line (bytes "refused") (pos (number_of r) ∷ pos (plac
 -- ---- the answer
 
 -- an answer with its rows
-unfoldable pub printed_answer : Answer → List (List ℤ) → Bytes
-printed_answer (NotGiven r) rows = refused_line r
-printed_answer (Given n total) rows = row_lines 1 rows ++ printed_line (bytes "end") (pos n ∷ pos total ∷ [])
+unfoldable pub printed_answer : Result Answer Refusal → List (List ℤ) → Bytes
+printed_answer (Err r) rows = refused_line r
+printed_answer (Ok a) rows = row_lines 1 rows ++ printed_line (bytes "end") (pos a.rows ∷ pos a.total ∷ [])
 
 -- the room that the program lends for the rows holds the largest answer, 4,176 numbers
 abbrev pub row_room : ℕ
@@ -75,9 +73,9 @@ table_room = length_for most_pins most_arcs most_tests
 unfoldable pub printed_table : Table → ℕ → ℕ → Bytes
 printed_table t mode k = let rows = table_rows t mode k in printed_answer (answer t mode k row_room work_length) rows
 
-unfoldable pub printed_reading : Reading → Bytes → Bytes
-printed_reading (Refused r) x = refused_line r
-printed_reading (Read length mode k) x = printed_table (table_of x) mode k
+unfoldable pub printed_reading : Result Reading Refusal → Bytes → Bytes
+printed_reading (Err r) x = refused_line r
+printed_reading (Ok r) x = printed_table (table_of x) r.mode r.k
 
 unfoldable pub printed : Bytes → Bytes
 printed x = printed_reading (reading x table_room) x

@@ -1,11 +1,9 @@
 -- The refusals of document 01: the number and the place that each case of the code's enum `Refusal` stands for.
 -- Assumes nothing.
-use Rattle.std.specs.Prelude.{ℕ}
+use Rattle.std.specs.Prelude.{ℕ, Result, Ok, Err}
 use Rattle.std.proofs.Math.Option.{Option, none, some}
 use Rattle.timing.specs.declared.Refusal.{Refusal}
 use Rattle.timing.specs.declared.Refusal.TheVariants.{TextLong, LineNotDue, FieldCount, FieldForm, TableRoom, TableHeader, PinNumbers, RootCount, ArcEnds, ArcKinds, ArcRange, ArcsInto, TestNumbers, ModeOrK, RowRoom, ListCount}
-use Rattle.timing.specs.declared.Checked.{Checked}
-use Rattle.timing.specs.declared.Checked.TheVariants.{Fine, Refused}
 
 -- the column "no."
 abbrev pub number_of : Refusal → ℕ
@@ -46,6 +44,6 @@ place_of RowRoom = 0
 place_of ListCount = 0
 
 -- what a check answers: the refusal, if there is one
-abbrev pub checked_of : Option Refusal → Checked
-checked_of none = Fine
-checked_of (some r) = Refused r
+abbrev pub checked_of : Option Refusal → Result Unit Refusal
+checked_of none = Ok tt
+checked_of (some r) = Err r

@@ -1,10 +1,9 @@
 -- The bench sheet of document 01: its text, its table, and P1 to P9 in one table of cases with one theorem, by computation. Behind them in the same table
 -- stand the runs that document 01 names, and one case for each place in the order of refusals.
 -- Assumes nothing.
-use Rattle.std.specs.Prelude.{ℕ, ◌+◌, ◌*◌, ◌≡◌, refl, [], ◌∷◌, ◌++◌, length, set, pos, negsuc}
+use Rattle.std.specs.Prelude.{ℕ, ◌+◌, ◌*◌, ◌≡◌, refl, [], ◌∷◌, ◌++◌, length, set, pos, negsuc, Ok}
 use Rattle.std.proofs.Math.Option.{none, some}
 use Rattle.timing.specs.declared.Refusal.TheVariants.{FieldForm, TableRoom, PinNumbers, ArcEnds, ArcRange, TestNumbers, ModeOrK, RowRoom}
-use Rattle.timing.specs.declared.Answer.TheVariants.{Given}
 use Rattle.timing.specs.Limits.{work_length}
 use Rattle.timing.specs.Table.{Table}
 use Rattle.lists.specs.Choice.{pick, holds, first_met}
@@ -92,7 +91,7 @@ pub record Cases : Type 0 where
       ++ (bytes "path\t3\t40\t30\t1\t3\t4\n"
       ++ bytes "end\t3\t5\n")))
   -- "k = 16 gives five rows, 17 and 0 are refused (14)"
-  pub all-rows : answer table 0 16 192 work_length ≡ Given 5 5
+  pub all-rows : answer table 0 16 192 work_length ≡ Ok (record { rows = 5; total = 5 })
   pub too_many : asking_fault table 0 17 1000 work_length ≡ some ModeOrK
   pub too_few : asking_fault table 0 0 1000 work_length ≡ some ModeOrK
   -- "empty text is 2 at line 1"

@@ -2,14 +2,13 @@
 --
 -- The lines due behind `design` are one sequence: P lines `pin`, A lines `arc`, T lines `test`. Line n of a text is counted from 1.
 -- Assumes nothing.
-use Rattle.std.specs.Prelude.{ℕ, zero, suc, ◌+◌, ◌-◌, Bool, not, ◌||◌, List, [], ◌∷◌, ◌++◌, length, get_or, eqb, leb, ltb}
+use Rattle.std.specs.Prelude.{ℕ, zero, suc, ◌+◌, ◌-◌, Bool, not, ◌||◌, List, [], ◌∷◌, ◌++◌, length, get_or, eqb, leb, ltb, Result, Ok, Err}
 use Rattle.std.proofs.Math.Option.{Option, none, some}
 use Rattle.lists.specs.Choice.{pick, Ground, ground, first_met}
 use Rattle.lists.specs.Parts.{below, gather, split, written}
 use Rattle.timing.specs.declared.Refusal.{Refusal}
 use Rattle.timing.specs.declared.Refusal.TheVariants.{TextLong, LineNotDue, TableRoom}
 use Rattle.timing.specs.declared.Reading.{Reading}
-use Rattle.timing.specs.declared.Reading.TheVariants.{Read, Refused}
 use Rattle.timing.specs.Limits.{most_text}
 use Rattle.timing.specs.Table.{Table, length_for}
 use Rattle.timing.specs.Field.{Bytes, arc_word, test_word, mode_in}
@@ -122,11 +121,11 @@ k_asked x = k_at x (ask_number x)
 -- ---- the reading and its memory
 
 -- "An accepted reading returns the table's length, the mode and k."
-unfoldable pub reading_of : Option Refusal → Bytes → Reading
-reading_of (some r) x = Refused r
-reading_of none x = Read (table_length x) (mode_asked x) (k_asked x)
+unfoldable pub reading_of : Option Refusal → Bytes → Result Reading Refusal
+reading_of (some r) x = Err r
+reading_of none x = Ok (record { length = table_length x; mode = mode_asked x; k = k_asked x })
 
-unfoldable pub reading : Bytes → ℕ → Reading
+unfoldable pub reading : Bytes → ℕ → Result Reading Refusal
 reading x room = reading_of (text_fault x room) x
 
 -- "every lent buffer stays unwritten", or the table at the front: "Table places beyond the design stay."

@@ -68,7 +68,8 @@ module _ (s : Structure) (ok : Sound s) where
       one p a k e ih c (inl q) = rw q c
       one p a k e ih c (inr i) = ih (driver-clocked a k (rw e c)) i
 
-  route-up : (z y p : ℕ) → p < pins s → In y (route s p) → In z (route s y) → In z (route s p)
+  -- a pin above another is on its routes
+  pub route-up : (z y p : ℕ) → p < pins s → In y (route s p) → In z (route s y) → In z (route s p)
   unfolding route
   route-up z y p l h (inl e) = subst (λ (u : ℕ). In u (route s p)) (sym e) h
   route-up z y p l h (inr i) =
