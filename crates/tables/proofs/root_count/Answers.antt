@@ -1,21 +1,15 @@
--- `tables::root_count` meets its contract: what is counted is the tally so far. Assumes nothing.
-use mathlib.Core.Path.{◌≡◌, sym}
-use native.Mathlib.Omega.{arith}
-use Rattle.lists.proofs.Laws.Scan.{tally-none, tally-more, tally-most}
-use Rattle.timing.specs.Table.{pin_count}
+-- `tables::root_count` meets its contract. Assumes nothing.
+use Rattle.std.proofs.Common.{rules, arith, ◌∙◌}
+use Rattle.std.proofs.Common.{tests}
+use Rattle.std.proofs.lemmas.Iterator.{YieldsList-from_range}
+use Rattle.std.proofs.lemmas.Iterator.Consumers.{count_from_yields_List, YieldsList-from_filter}
 use Rattle.timing.specs.Check.{is_root}
-use Rattle.tables.proofs.Facts.{bit-most}
-use lib.Dec.{eqb}
+use Rattle.timing.specs.Table.{pin_count}
+use Rattle.tables.proofs.Loops.{counted}
 use Rattle.tables.proofs.root_count.Goals as goal
 
-pub loop-p-init : goal.loop-p-init
-loop-p-init c = (omega arith, sym (tally-none _))
-
-pub overflow_add-r : goal.overflow_add-r
-overflow_add-r c = record { fits = omega (arith, tally-most (is_root c.args.table.now) c.loop-p.p, rw (← c.one_if-r.ensures) at (bit-most (eqb c.of_pin.result 0))) }
-
-pub loop-p-preserved : goal.loop-p-preserved
-loop-p-preserved c = (omega arith, rw (tally-more _ _) (cc))
-
 pub returns : goal.returns
-returns c = let e : c.loop-p.p ≡ pin_count c.args.table.now = omega arith in cc
+returns c =
+    let t = c.args.table.now in
+    count_from_yields_List _ _ c.count.ensures.ran (YieldsList-from_filter _ (is_root t) (YieldsList-from_range 0 (pin_count t) (pin_count t) (cc) (omega arith)) c.filter.ensures.closure (λ x r q k. search (rules, tests)))
+    ∙ counted (is_root t) (pin_count t)
