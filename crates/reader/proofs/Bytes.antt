@@ -1,48 +1,37 @@
--- One byte further in the loops over a field. Assumes nothing.
-use Rattle.std.proofs.Common.{◌≡◌, ℕ, zero, suc, ◌+◌, ◌-◌, ◌*◌, ◌<◌, ◌≤◌, Bool, true, false, not, ◌&&◌, ◌||◌, eqb, leb, List, [], ◌∷◌, length, get_or, drop, sym, refl, ap, ◌∙◌, not-suc-le-zero, add-zero, add-one, arith, drop_of_length-le, eq-eqb, ne_eqb, le-leb, leb-true}
-use native.Mathlib.Decide.{dec_le}
+-- What the bytes of a field say, one byte further in a loop over it. Assumes nothing.
+use Rattle.std.proofs.Common.{◌≡◌, ℕ, zero, suc, ◌+◌, ◌-◌, ◌*◌, ◌<◌, ◌≤◌, Bool, true, false, not, ◌&&◌, ◌||◌, eqb, leb, List, [], ◌∷◌, length, get_or, drop, sym, refl, ◌∙◌, not-suc-le-zero, add-zero, add-one, arith, drop_of_length-le, le-leb, leb-true}
+use Rattle.std.specs.Prelude.{nat_eq}
+use Rattle.std.specs.List.{list_all}
+use Rattle.std.specs.Char.{is_ascii_digit}
 use borrow.Author.Tests.{lt-leb}
+use lib.Pointwise.{pointwise}
 use Rattle.lists.specs.Choice.{pick}
 use Rattle.lists.specs.Parts.{every, same}
 use Rattle.lists.proofs.Laws.Cut.{one_on}
 use Rattle.timing.specs.Field.{digit, well_formed, value_from, value, number_or_0}
 use Rattle.timing.specs.Line.{field_of, number_in}
 
-pub same-short : (f w : List ℕ) → (length f ≡ length w → ⊥) → same f w ≡ false
+-- std's equality of lists of numbers is the same test
+pub pointwise_same : (f w : List ℕ) → pointwise nat_eq f w ≡ same f w
 unfolding same pick
-same-short [] [] h = absurd (h refl)
-same-short [] (y ∷ w) h = refl
-same-short (x ∷ f) [] h = refl
-same-short (x ∷ f) (y ∷ w) h = by_byte (eqb x y) (same-short f w (λ e. h (ap suc e)))
+pointwise_same [] [] = refl
+pointwise_same [] (y ∷ w) = refl
+pointwise_same (x ∷ f) [] = refl
+pointwise_same (x ∷ f) (y ∷ w) = by_byte (eqb x y) (pointwise_same f w)
   where
-    by_byte : (c : Bool) → same f w ≡ false → pick c (same f w) false ≡ false
+    by_byte : (c : Bool) → pointwise nat_eq f w ≡ same f w → (c && pointwise nat_eq f w) ≡ pick c (same f w) false
     by_byte true e = e
     by_byte false e = refl
 
-pub same_step : (f w : List ℕ) (i : ℕ) → i < length f → i < length w → get_or f i 0 ≡ get_or w i 0 → same (drop (i + 1) f) (drop (i + 1) w) ≡ same (drop i f) (drop i w)
-unfolding same pick
-same_step f w i h k e = sym (rw (one_on f i h, one_on w i k, eq-eqb _ _ e) refl)
-
-pub same-differ : (f w : List ℕ) (i : ℕ) → i < length f → i < length w → (get_or f i 0 ≡ get_or w i 0 → ⊥) → same (drop i f) (drop i w) ≡ false
-unfolding same pick
-same-differ f w i h k e = rw (one_on f i h, one_on w i k, ne_eqb _ _ e) refl
-
-pub same_end : (f w : List ℕ) (i : ℕ) → length f ≤ i → length w ≤ i → same (drop i f) (drop i w) ≡ true
-unfolding same
-same_end f w i h k = rw (drop_of_length-le f h, drop_of_length-le w k) refl
-
 module _ (p : ℕ → Bool) where
-  pub every-step : (l : List ℕ) (i : ℕ) → i < length l → p (get_or l i 0) ≡ true → every p (drop (i + 1) l) ≡ every p (drop i l)
+  pub all-every : (l : List ℕ) → list_all p l ≡ every p l
   unfolding every pick
-  every-step l i h e = sym (rw (one_on l i h, e) refl)
-
-  pub every-fail : (l : List ℕ) (i : ℕ) → i < length l → p (get_or l i 0) ≡ false → every p (drop i l) ≡ false
-  unfolding every pick
-  every-fail l i h e = rw (one_on l i h, e) refl
-
-  pub every-end : (l : List ℕ) (i : ℕ) → length l ≤ i → every p (drop i l) ≡ true
-  unfolding every
-  every-end l i h = rw (drop_of_length-le l h) refl
+  all-every [] = refl
+  all-every (x ∷ l) = by_byte (p x) (all-every l)
+    where
+      by_byte : (c : Bool) → list_all p l ≡ every p l → (c && list_all p l) ≡ pick c (every p l) false
+      by_byte true e = e
+      by_byte false e = refl
 
   pub every-at : (l : List ℕ) (i : ℕ) → every p l ≡ true → i < length l → p (get_or l i 0) ≡ true
   unfolding every pick
@@ -54,13 +43,26 @@ module _ (p : ℕ → Bool) where
       by_byte true q g r zero k = q
       by_byte true q g r (suc j) k = r g j (omega (arith, k))
 
+pub empty_formed : (f : List ℕ) → length f ≡ 0 → false ≡ well_formed f
+unfolding well_formed
+empty_formed f h = rw h refl
+
+pub long_formed : (f : List ℕ) → 7 < length f → false ≡ well_formed f
+unfolding well_formed
+long_formed f h = let k : 1 ≤ length f = omega arith in
+    rw (le-leb 1 (length f) k, lt-leb (length f) 7 h) refl
+
+pub sized_formed : (f : List ℕ) → 1 ≤ length f → length f ≤ 7 → (list_all is_ascii_digit f && (not (eqb (get_or f 0 0) 48) || eqb (length f) 1)) ≡ well_formed f
+unfolding well_formed
+sized_formed f h k = rw (le-leb 1 (length f) h, le-leb (length f) 7 k, all-every digit f) refl
+
 pub value-step : (f : List ℕ) (i v : ℕ) → i < length f → value_from (v * 10 + (get_or f i 0 - 48)) (drop (i + 1) f) ≡ value_from v (drop i f)
 unfolding value_from
 value-step f i v h = sym (rw (one_on f i h) refl)
 
-pub value-end : (f : List ℕ) (i v : ℕ) → length f ≤ i → value_from v (drop i f) ≡ v
+pub value_end : (f : List ℕ) (i v : ℕ) → length f ≤ i → value_from v (drop i f) ≡ v
 unfolding value_from
-value-end f i v h = rw (drop_of_length-le f h) refl
+value_end f i v h = rw (drop_of_length-le f h) refl
 
 -- 10 to the n
 unfoldable pub tens : ℕ → ℕ
@@ -83,9 +85,9 @@ tens-most (suc (suc (suc (suc (suc (suc zero)))))) h = omega arith
 tens-most (suc (suc (suc (suc (suc (suc (suc zero))))))) h = omega arith
 tens-most (suc (suc (suc (suc (suc (suc (suc (suc n)))))))) h = absurd (omega (arith, h))
 
-pub tens-six : (n : ℕ) → n < 7 → tens n ≤ 1000000
+pub tens_six : (n : ℕ) → n < 7 → tens n ≤ 1000000
 unfolding tens
-tens-six n h = omega (arith, rw tens-more at (tens-most (n + 1) (omega (arith, h))))
+tens_six n h = omega (arith, rw tens-more at (tens-most (n + 1) (omega (arith, h))))
 
 -- the loop over a number's digits
 pub record So (f : List ℕ) (v i : ℕ) : Type 0 where
@@ -103,9 +105,9 @@ and_right : (a b : Bool) → (a && b) ≡ true → b ≡ true
 and_right true b e = e
 and_right false b e = absurd (let z : ◌≡◌ {A = ℕ} 0 1 = cc in omega arith)
 
-pub so-first : (f : List ℕ) → well_formed f ≡ true → So f 0 0
+pub so_first : (f : List ℕ) → well_formed f ≡ true → So f 0 0
 unfolding well_formed value tens
-so-first f e =
+so_first f e =
     let z = not (eqb (get_or f 0 0) 48) || eqb (length f) 1 in
     let f1 = and_left (leb 1 (length f) && leb (length f) 7 && every digit f) z e in
     let f2 = and_left (leb 1 (length f) && leb (length f) 7) (every digit f) f1 in
@@ -122,8 +124,8 @@ so-first f e =
       low = omega arith;
     }
 
-pub so-more : (f : List ℕ) (v i : ℕ) → So f v i → i < length f → So f (v * 10 + (get_or f i 0 - 48)) (i + 1)
-so-more f v i s h =
+pub so_more : (f : List ℕ) (v i : ℕ) → So f v i → i < length f → So f (v * 10 + (get_or f i 0 - 48)) (i + 1)
+so_more f v i s h =
     let d = s.digits i h in
     record {
       most = omega arith;
@@ -148,16 +150,6 @@ number_small l i = by_form (well_formed (field_of l i)) refl
   where
     by_form : (b : Bool) → well_formed (field_of l i) ≡ b → pick b (value_from 0 (field_of l i)) 0 < 10000000
     by_form true e =
-        let s = so-first (field_of l i) e in
+        let s = so_first (field_of l i) e in
         omega (arith, value_low (field_of l i) 0 0 s.digits s.low, tens-most (0 + length (field_of l i)) (omega (arith, s.seven)))
     by_form false e = omega arith
-
--- what `digit_at` answers: no digit over 9, else the digit
-pub no_digit : (b r : ℕ) → 9 < r → (48 ≤ b → b ≡ r + 48) → digit b ≡ false
-no_digit b r h d = elim (dec_le 48 b) [
-  | yes k ↦ rw (lt-leb b 57 (omega (arith, d k)), le-leb 48 b k) refl
-  | no k ↦ rw (lt-leb 48 b (omega arith)) refl
-]
-
-pub a-digit : (b r : ℕ) → r ≤ 9 → (r ≤ 9 → b ≡ r + 48) → digit b ≡ true
-a-digit b r h d = rw (le-leb 48 b (omega (arith, d h)), le-leb b 57 (omega (arith, d h))) refl

@@ -48,6 +48,9 @@ module _ (x : List ℕ) (a next : ℕ) (h : a ≤ length x) (g : next ≡ next_a
       (λ l i. let j : next - 1 ≡ end_at 10 x a = omega arith in absurd (n (rw j (hit-at 10 x a l))))
       (λ l i. i)
 
+  pub absent : next ≡ end_at 10 x a → length x ≤ end_at 10 x a
+  absent e = by_end (length x ≤ end_at 10 x a) (λ l i. absurd (omega (arith, i, e))) (λ l i. l)
+
   pub after_none : next ≤ a → next ≡ end_at 10 x a
   after_none k = by_end (next ≡ end_at 10 x a) (λ l i. absurd (omega (arith, i, k))) (λ l i. i)
 
@@ -124,3 +127,6 @@ module _ (x : Bytes) (m a e n : ℕ) (s : a ≡ start_of 10 x m) (g : e ≡ end_
       let z : e - a ≡ 0 = omega (arith, o) in
       let y : line_of x n ≡ [] = line_at ∙ rw z refl in
       rw (lt-leb _ _ (missing (omega (arith, o))), y) refl
+
+-- line 0, and any other
+pub ruleset line_starts = (line-start-zero, line-start-more)

@@ -9,7 +9,9 @@ use Rattle.lists.specs.Laws.Cut.{reach, end_at}
 use Rattle.lists.proofs.Laws.Cut.{one_on, same-exactly}
 use Rattle.lists.specs.Laws.Member.{All}
 use Rattle.lists.proofs.Laws.Member.{all_app, all_map, all_of, in-every}
-use Rattle.timing.specs.Kinds.{has_times}
+use Rattle.timing.specs.declared.Kind.{Kind}
+use Rattle.timing.specs.declared.Kind.TheVariants.{R, B, K, I, D}
+use Rattle.timing.specs.Kinds.{has_times, kind_number}
 use Rattle.timing.specs.Field.{Bytes, pin_word, digit, well_formed, value_from, value, number_or_0, kind_of, letter}
 use Rattle.timing.specs.Line.{field_of, field_count, is_number, number_in, other_word, four_numbers, line_kind, pin_line, four_line, four_of, pin_of}
 use Rattle.timing.specs.Text.{due_line, due_of}
@@ -229,6 +231,14 @@ four-plain {x} {at} {n} {v} {w} {y} {z} {word} t f s =
 
 -- ---- `pin`
 
+-- a kind is none of the numbers that no kind has
+kind-known : (k : Kind) → kind_number k ≡ 5 → ⊥
+kind-known R e = omega (arith, e)
+kind-known B e = omega (arith, e)
+kind-known K e = omega (arith, e)
+kind-known I e = omega (arith, e)
+kind-known D e = omega (arith, e)
+
 pin-letters : All InField pin_word
 pin-letters = (omega arith, (omega arith, (omega arith, tt)))
 
@@ -255,7 +265,10 @@ kind-letter b n = elim (dec_le b 10) [
 ]
 
 -- behind the word the letter at a, which names the kind k
-module _ (x : Bytes) (at a k : ℕ) (w : WordTo x at pin_word) (i : a ≡ at + 4) (e : k ≡ kind_of (get_or x a 0)) (n : k ≡ 5 → ⊥) where
+module _ (x : Bytes) (at a : ℕ) (kind : Kind) (w : WordTo x at pin_word) (i : a ≡ at + 4) (e : kind_number kind ≡ kind_of (get_or x a 0)) where
+  n : kind_number kind ≡ 5 → ⊥
+  n = kind-known kind
+
   high : 10 < get_or x a 0
   high = kind-letter (get_or x a 0) (λ z. n (e ∙ z))
 
@@ -268,26 +281,26 @@ module _ (x : Bytes) (at a k : ℕ) (w : WordTo x at pin_word) (i : a ≡ at + 4
   letter-stands : (c : ℕ) → get_or x (a + 1) 0 ≡ c → Stands InField c x a (a + 1 + 1) (get_or x a 0 ∷ [])
   letter-stands c g = record { text = one_on x a inside ∙ rw (one_on x (a + 1) letter-behind, g) refl; long = refl; all = (high, tt) }
 
-  letter-is : letter (get_or x a 0 ∷ []) ≡ k
+  letter-is : letter (get_or x a 0 ∷ []) ≡ kind_number kind
   unfolding letter pick
   letter-is = sym e
 
   word_first : Stands InField 9 x at a pin_word
   word_first = let j : at + length pin_word + 1 ≡ a = omega (arith, i) in rw j at (word_stands x at pin_word w pin-letters)
 
-  pub pin-short : has_times k ≡ false → get_or x (a + 1) 0 ≡ 10 → PlainTo pin_line pin_of x at (a + 1 + 1) (k ∷ 0 ∷ 0 ∷ [])
+  pub pin-short : has_times (kind_number kind) ≡ false → get_or x (a + 1) 0 ≡ 10 → PlainTo pin_line pin_of x at (a + 1 + 1) (kind_number kind ∷ 0 ∷ 0 ∷ [])
   pin-short t g =
       let b = get_or x a 0 in
       let s = letter-stands 10 g in
-      let q = pin-alone (pin_word ++ (9 ∷ b ∷ [])) b k letter-is n (split-field pin_word (b ∷ []) pin-letters ∙ rw (split-alone (b ∷ []) s.all) refl) t in
+      let q = pin-alone (pin_word ++ (9 ∷ b ∷ [])) b (kind_number kind) letter-is n (split-field pin_word (b ∷ []) pin-letters ∙ rw (split-alone (b ∷ []) s.all) refl) t in
       record { l = pin_word ++ (9 ∷ b ∷ []); stands = stands-more word_first (stands-last s); clean = q.0; says = q.1 }
 
-  pub pin-long : (d v y : ℕ) → has_times k ≡ true → get_or x (a + 1) 0 ≡ 9 → NumbersTo x (a + 1 + 1) d (v ∷ y ∷ []) → PlainTo pin_line pin_of x at d (k ∷ v ∷ y ∷ [])
+  pub pin-long : (d v y : ℕ) → has_times (kind_number kind) ≡ true → get_or x (a + 1) 0 ≡ 9 → NumbersTo x (a + 1 + 1) d (v ∷ y ∷ []) → PlainTo pin_line pin_of x at d (kind_number kind ∷ v ∷ y ∷ [])
   pin-long d v y t g m =
       let b = get_or x a 0 in
       let s = letter-stands 9 g in
       let f = (b ∷ []) ++ (9 ∷ m.l) in
-      let q = pin-timed (pin_word ++ (9 ∷ f)) b k letter-is n (split 9 m.l) v y (split-field pin_word f pin-letters ∙ rw (split-field (b ∷ []) m.l s.all) refl) m.fine m.says t in
+      let q = pin-timed (pin_word ++ (9 ∷ f)) b (kind_number kind) letter-is n (split 9 m.l) v y (split-field pin_word f pin-letters ∙ rw (split-field (b ∷ []) m.l s.all) refl) m.fine m.says t in
       record { l = pin_word ++ (9 ∷ f); stands = stands-more word_first (stands-more s m.stands); clean = q.0; says = q.1 }
 
 -- ---- the line due

@@ -1,13 +1,15 @@
 // The reader: from a text to a table of numbers, with the refusals 1 to 5; line n of a text; the fields of a line and what they say.
 #![tactic(auto)]
 
-ghost use Rattle.std.specs.Prelude.{◌≡◌, ◌+◌, ◌-◌, ◌*◌, ◌<◌, ◌≤◌, true, length, slice_index};
+ghost use Rattle.std.specs.Prelude.{◌≡◌, ◌+◌, ◌-◌, ◌*◌, ◌<◌, ◌≤◌, ◌++◌, ◌∷◌, [], true, false, length, IfSome, MatchOption, MatchResult, Ok, ◌==◌, count_by};
+ghost use Rattle.std.specs.List.{list_all};
+ghost use Rattle.std.specs.Char.{is_ascii_digit};
+ghost use Rattle.std.proofs.Math.Option.{none, some};
 ghost use Rattle.lists.specs.Choice.{first_met};
 ghost use Rattle.lists.specs.Parts.{below, gather, same};
-ghost use Rattle.timing.specs.Kinds.{has_times};
-ghost use Rattle.timing.specs.Refusals.{checked_of};
-ghost use Rattle.timing.specs.Field.{digit, is_mode, mode_in, well_formed, value, number_or_0, kind_of, letter};
-ghost use Rattle.timing.specs.Line.{field_of, field_count, is_number, number_in, sizes_bad, design_line, pin_line, four_line, ask_line, four_of, pin_of};
+ghost use Rattle.timing.specs.Kinds.{kind_number};
+ghost use Rattle.timing.specs.Field.{digit, is_mode, mode_in, well_formed, number_or_0, no_kind, letter};
+ghost use Rattle.timing.specs.Line.{field_of, field_count, is_number, four_numbers, number_in, design_line, pin_line, four_line, ask_line, four_of, pin_of};
 ghost use Rattle.timing.specs.Text.{line_of, line_start, due_line, line_grounds, ask_grounds, due_of};
 ghost use Rattle.timing.specs.Allows.{ReadAllows};
 ghost use Rattle.lists.specs.Laws.Cut.{end_at};
@@ -15,18 +17,15 @@ ghost use Rattle.lists.specs.Laws.Member.{All};
 ghost use Rattle.reader.specs.Cut.{start_of, next_at};
 ghost use Rattle.lists.specs.Laws.Write.{sets};
 ghost use Rattle.reader.specs.Scan.{last_byte, line_from, InField, NumberTo, WordTo, three_of, all_four, due_in, PlainTo};
-ghost use Rattle.reader.specs.Answer.{due_at, passed_of, asked_of, survey_of, found_of, table_to};
+ghost use Rattle.reader.specs.Answer.{told, sizes_of, asked_in, asked_at, due_at, DueTo, survey_of, table_to, Clean};
 
-use timing::{Checked, Design, Reading, Refusal};
+use timing::{Design, Kind, Reading, Refusal};
 
 // What parts the fields of a line.
 const TAB: u8 = b'\t';
 
 // What ends a line: byte 10.
 const LINE_END: u8 = b'\n';
-
-// No kind has this number.
-const NO_KIND: u32 = 5;
 
 // The most digits that a number has.
 const DIGITS: usize = 7;
@@ -37,167 +36,126 @@ const SIX_DIGITS: u32 = 999999;
 // ---- bytes
 
 // The place of the first byte b at or behind a, or the end.
+// Stays: the end where there is none, which the slice in front needs as it is.
 fn end_of(s: &[u8], b: u8, a: usize) -> usize
     requires { a ≤ length s.now }
     ensures { (result ≡ end_at b s.now a) × ((a ≤ result) × (result ≤ length s.now)) }
 {
-    let mut i = a;
-    while i < s.len() {
-        if s[i] == b {
-            return i;
-        }
-        i += 1;
-    }
-    i
+    let rest = &s[a..];
+    a + rest.iter().position(|x| *x == b).unwrap_or(rest.len())
+}
+
+// How many bytes b there are.
+fn count(s: &[u8], b: u8) -> usize
+    ensures { result ≡ count_by (λ x. x == b) s.now }
+{
+    s.iter().filter(|x| **x == b).count()
 }
 
 // The place behind the first n bytes b; the end where there are fewer.
+// Stays: the end where there are fewer, which the slice behind needs as it is; and a count downwards, since the place behind is wanted, also for n = 0.
+#[tactic(auto, using(crate::proofs::Places::starts))]
 fn skip(s: &[u8], b: u8, n: usize) -> usize
     ensures { (result ≡ start_of b s.now n) × (result ≤ length s.now) }
 {
-    let mut i = 0;
     let mut left = n;
-    while i < s.len() {
+    for (i, x) in s.iter().enumerate() {
         if left == 0 {
             return i;
         }
-        if s[i] == b {
+        if *x == b {
             left -= 1;
         }
-        i += 1;
     }
-    i
+    s.len()
 }
 
 // ---- fields
 
 // Whether a field is the word, byte for byte.
+// Stays: one place for the lemma that `==` is `same`; and a public function may not go.
+#[tactic(auto, using(crate::proofs::Bytes::pointwise_same))]
 pub fn alike(f: &[u8], word: &[u8]) -> bool
     ensures { result ≡ same f.now word.now }
 {
-    if f.len() != word.len() {
-        return false;
-    }
-    let mut i = 0;
-    while i < f.len() {
-        if f[i] != word[i] {
-            return false;
-        }
-        i += 1;
-    }
-    true
+    f == word
 }
 
-// The byte as a number.
-fn wide(b: u8) -> u32
-    ensures { result ≡ b }
+// Whether each byte is a digit.
+fn all_digits(f: &[u8]) -> bool
+    ensures { result ≡ list_all is_ascii_digit f.now }
 {
-    b as u32
-}
-
-// The digit at i; over 9 where there is none.
-fn digit_at(s: &[u8], i: usize) -> u32
-    requires { i < length s.now }
-    ensures { (result ≤ 9 → slice_index s.now i ≡ result + 48) × (48 ≤ slice_index s.now i → slice_index s.now i ≡ result + 48) }
-{
-    std::num::wrapping_sub_u32(wide(s[i]), wide(b'0'))
+    f.iter().all(|b| b.is_ascii_digit())
 }
 
 // Whether a field is a number: 1 to 7 digits, no leading zero but `0` itself.
+#[tactic(auto, using(crate::proofs::Bytes::empty_formed, crate::proofs::Bytes::long_formed))]
 pub fn well_formed(f: &[u8]) -> bool
     ensures { result ≡ well_formed f.now }
 {
-    if f.len() == 0 {
+    if f.is_empty() || DIGITS < f.len() {
         return false;
     }
-    if DIGITS < f.len() {
-        return false;
+    all_digits(f) && (f[0] != b'0' || f.len() == 1)
+}
+
+// The number that a field says, if it is one.
+#[tactic(auto, using(crate::proofs::Bytes::so_first, crate::proofs::Bytes::tens_six, crate::proofs::Bytes::value_end), unfolding(timing::specs::Field::number_or_0, lists::specs::Choice::pick))]
+fn value_of(f: &[u8]) -> Option<u32>
+    ensures { MatchOption result (well_formed f.now ≡ false) (λ v. (well_formed f.now ≡ true) × (v ≡ number_or_0 f.now)) }
+{
+    if !well_formed(f) {
+        return None;
     }
-    let mut i = 0;
-    while i < f.len() {
-        if 9 < digit_at(f, i) {
-            return false;
-        }
-        i += 1;
+    let mut value = 0;
+    for b in f {
+        value = value * 10 + u32::from(*b - b'0');
     }
-    !(f[0] == b'0') | (f.len() == 1)
+    Some(value)
 }
 
 // The number that a field says; 0 where it is no number.
+// Stays: a public function may not go, nor promise another number; `value_of` is what the reader asks.
+#[tactic(auto, unfolding(timing::specs::Field::number_or_0, lists::specs::Choice::pick))]
 pub fn number(f: &[u8]) -> u32
     ensures { result ≡ number_or_0 f.now }
 {
-    if !well_formed(f) {
-        return 0;
-    }
-    let mut v = 0;
-    let mut i = 0;
-    while i < f.len() {
-        v = v * 10 + digit_at(f, i);
-        i += 1;
-    }
-    v
+    value_of(f).unwrap_or(0)
 }
 
-// The kind that a letter names, 0 to 4 for R, B, K, I, D; 5 for any other byte.
-fn kind_of(b: u8) -> u32
-    ensures { result ≡ kind_of b }
+// The kind that a field's letter names.
+#[tactic(auto, unfolding(timing::specs::Field::letter, lists::specs::Choice::pick))]
+pub fn letter_of(f: &[u8]) -> Option<Kind>
+    ensures { MatchOption result (letter f.now ≡ no_kind) (λ k. kind_number k ≡ letter f.now) }
 {
-    if b == b'R' {
-        return 0;
+    match f {
+        [letter] => Kind::of_letter(*letter),
+        _ => None,
     }
-    if b == b'B' {
-        return 1;
-    }
-    if b == b'K' {
-        return 2;
-    }
-    if b == b'I' {
-        return 3;
-    }
-    if b == b'D' {
-        return 4;
-    }
-    NO_KIND
-}
-
-// The kind that a field's letter names, 0 to 4; 5 where it names none.
-pub fn letter_of(f: &[u8]) -> u32
-    ensures { result ≡ letter f.now }
-{
-    if f.len() == 1 {
-        return kind_of(f[0]);
-    }
-    NO_KIND
 }
 
 // Whether a field is `setup` or `hold`.
+// Stays, and the next: two public functions, each with the definition of its name, which may not promise less.
+#[tactic(auto, unfolding(timing::specs::Field::is_mode))]
 pub fn is_mode(f: &[u8]) -> bool
     ensures { result ≡ is_mode f.now }
 {
-    alike(f, b"setup") | alike(f, b"hold")
+    alike(f, b"setup") || alike(f, b"hold")
 }
 
 // The mode that a field names: 1 for `hold`, else 0.
+#[tactic(auto, unfolding(timing::specs::Field::mode_in, lists::specs::Choice::pick))]
 pub fn mode_of(f: &[u8]) -> u32
     ensures { result ≡ mode_in f.now }
 {
-    if alike(f, b"hold") {
-        return 1;
-    }
-    0
-}
-
-// Whether a kind has an early and a late arrival.
-fn has_times(k: u32) -> bool
-    ensures { result ≡ has_times k }
-{
-    (k == 0) | (k == 3)
+    u32::from(alike(f, b"hold"))
 }
 
 // ---- the fields of a line
 
 // Field i of a line, the word being field 0; empty where there is none.
+// Stays: with `split` and `nth` in place of the two searches the goal was left open; that the parts of a run are the definition's wants a law of its own.
+#[tactic(auto, using(crate::proofs::Places::parts), unfolding(timing::specs::Line::field_of))]
 pub fn field(l: &[u8], i: usize) -> &[u8]
     ensures { result.now ≡ field_of l.now i }
 {
@@ -207,133 +165,147 @@ pub fn field(l: &[u8], i: usize) -> &[u8]
 }
 
 // How many fields a line has; an empty line has one.
+#[tactic(auto, using(crate::proofs::Fields::split_count), unfolding(timing::specs::Line::field_count))]
 pub fn field_count(l: &[u8]) -> usize
     ensures { result ≡ field_count l.now }
 {
-    let mut count = 0;
-    let mut i = 0;
-    while i < l.len() {
-        if l[i] == TAB {
-            count += 1;
-        }
-        i += 1;
-    }
-    count + 1
+    count(l, TAB) + 1
 }
 
-// Whether field i of a line is a number.
-fn is_number(l: &[u8], i: usize) -> bool
-    ensures { result ≡ is_number l.now i }
+// The number in field i of a line, if it is one.
+#[tactic(auto, unfolding(timing::specs::Line::is_number, timing::specs::Line::number_in))]
+fn number_in(l: &[u8], i: usize) -> Option<u32>
+    ensures { MatchOption result (is_number l.now i ≡ false) (λ v. (is_number l.now i ≡ true) × (v ≡ number_in l.now i)) }
 {
-    well_formed(field(l, i))
+    value_of(field(l, i))
 }
 
-// ---- what is wrong with a line; n is its number
+// The numbers in fields 1 to 4, if each is one.
+#[tactic(auto, unfolding(timing::specs::Line::four_numbers, timing::specs::Line::four_of))]
+fn four_numbers(l: &[u8]) -> Option<[u32; 4]>
+    ensures { MatchOption result (four_numbers l.now ≡ false) (λ vs. (four_numbers l.now ≡ true) × (vs ≡ four_of l.now)) }
+{
+    let x = number_in(l, 1)?;
+    let y = number_in(l, 2)?;
+    let z = number_in(l, 3)?;
+    let u = number_in(l, 4)?;
+    Some([x, y, z, u])
+}
+
+// ---- what a line says, or what is wrong with it; n is its number
+// Stays: a line and its number go beside each other, and each test has its refusal beside it, as the definitions of their grounds have it.
 
 // An `arc` or a `test` line: the word and four numbers.
-fn four_fine(word: &[u8], l: &[u8], n: usize) -> Checked
-    ensures { result ≡ checked_of (first_met (four_line word.now l.now n)) }
+#[tactic(auto, unfolding(timing::specs::Line::four_line, timing::specs::Line::other_word, lists::specs::Choice::first_met))]
+fn four_line(word: &[u8], l: &[u8], n: usize) -> Result<[u32; 4], Refusal>
+    ensures { result ≡ told (first_met (four_line word.now l.now n)) (four_of l.now) }
 {
     if !alike(field(l, 0), word) {
-        return Checked::Refused(Refusal::LineNotDue(n));
+        return Err(Refusal::LineNotDue(n));
     }
     if field_count(l) != 5 {
-        return Checked::Refused(Refusal::FieldCount(n));
+        return Err(Refusal::FieldCount(n));
     }
-    let numbers = is_number(l, 1) & is_number(l, 2) & is_number(l, 3) & is_number(l, 4);
-    if !numbers {
-        return Checked::Refused(Refusal::FieldForm(n));
-    }
-    Checked::Fine
+    four_numbers(l).ok_or(Refusal::FieldForm(n))
 }
 
-// Whether a size is over its limit, or there is no pin.
-fn sizes_bad(p: usize, a: usize, t: usize) -> bool
-    ensures { result ≡ sizes_bad p a t }
+// The sizes that the numbers of the first line are.
+// Stays: a function, since how a line is written is the reader's own, and `From` would stand in `timing`.
+fn sizes(numbers: [u32; 4]) -> Design
+    ensures { result ≡ sizes_of numbers }
 {
-    (p == 0) | (Design::PINS < p) | (Design::ARCS < a) | (Design::TESTS < t)
-}
-
-// The number in field i of a line, 0 where it is none.
-fn number_in(l: &[u8], i: usize) -> usize
-    ensures { result ≡ number_in l.now i }
-{
-    number(field(l, i)) as usize
+    let [pins, arcs, tests, _] = numbers;
+    Design {
+        pins: pins as usize,
+        arcs: arcs as usize,
+        tests: tests as usize,
+    }
 }
 
 // The `design` line: the word, four numbers, and the sizes within their limits.
-fn design_fine(l: &[u8], n: usize) -> Checked
-    ensures { result ≡ checked_of (first_met (design_line l.now n)) }
+#[tactic(auto, using(crate::proofs::Grounds::design_late, crate::proofs::Grounds::design_early), unfolding(lists::specs::Choice::first_met, timing::specs::Line::four_of))]
+fn design_line(l: &[u8], n: usize) -> Result<[u32; 4], Refusal>
+    ensures { result ≡ told (first_met (design_line l.now n)) (four_of l.now) }
 {
-    let c = four_fine(b"design", l, n);
-    if let Checked::Refused(r) = c {
-        return Checked::Refused(r);
+    let numbers = four_line(b"design", l, n)?;
+    if !sizes(numbers).is_within() {
+        return Err(Refusal::FieldForm(n));
     }
-    if sizes_bad(number_in(l, 1), number_in(l, 2), number_in(l, 3)) {
-        return Checked::Refused(Refusal::FieldForm(n));
-    }
-    Checked::Fine
+    Ok(numbers)
 }
 
-// A `pin` line: the word, the letter, then the count of fields, then the times.
-fn pin_fine(l: &[u8], n: usize) -> Checked
-    ensures { result ≡ checked_of (first_met (pin_line l.now n)) }
+// A `pin` line: the word, the letter, then the count of fields, then the times. Of its four numbers the first three count: the kind, early and late.
+#[tactic(auto, unfolding(timing::specs::Line::pin_line, timing::specs::Line::pin_of, timing::specs::Line::other_word, timing::specs::Line::line_kind, lists::specs::Choice::first_met, lists::specs::Choice::pick))]
+fn pin_line(l: &[u8], n: usize) -> Result<[u32; 4], Refusal>
+    ensures { result ≡ told (first_met (pin_line l.now n)) (pin_of l.now ++ (0 ∷ [])) }
 {
     if !alike(field(l, 0), b"pin") {
-        return Checked::Refused(Refusal::LineNotDue(n));
+        return Err(Refusal::LineNotDue(n));
     }
     let count = field_count(l);
     if count == 1 {
-        return Checked::Refused(Refusal::FieldCount(n));
+        return Err(Refusal::FieldCount(n));
     }
-    let k = letter_of(field(l, 1));
-    if k == NO_KIND {
-        return Checked::Refused(Refusal::FieldForm(n));
-    }
-    if !has_times(k) {
+    let Some(kind) = letter_of(field(l, 1)) else {
+        return Err(Refusal::FieldForm(n));
+    };
+    if !kind.has_times() {
         if count != 2 {
-            return Checked::Refused(Refusal::FieldCount(n));
+            return Err(Refusal::FieldCount(n));
         }
-        return Checked::Fine;
+        return Ok([kind.number(), 0, 0, 0]);
     }
     if count != 4 {
-        return Checked::Refused(Refusal::FieldCount(n));
+        return Err(Refusal::FieldCount(n));
     }
-    let times = is_number(l, 2) & is_number(l, 3);
-    if !times {
-        return Checked::Refused(Refusal::FieldForm(n));
-    }
-    Checked::Fine
+    let early = number_in(l, 2).ok_or(Refusal::FieldForm(n))?;
+    let late = number_in(l, 3).ok_or(Refusal::FieldForm(n))?;
+    Ok([kind.number(), early, late, 0])
+}
+
+// What is asked.
+#[derive(Clone, Copy)]
+struct Asked {
+    mode: u32,
+    k: usize,
 }
 
 // The `ask` line: the word, the mode's word and k.
-fn ask_fine(l: &[u8], n: usize) -> Checked
-    ensures { result ≡ checked_of (first_met (ask_line l.now n)) }
+#[tactic(auto, unfolding(timing::specs::Line::ask_line, timing::specs::Line::other_word, lists::specs::Choice::first_met))]
+fn ask_line(l: &[u8], n: usize) -> Result<Asked, Refusal>
+    ensures { result ≡ told (first_met (ask_line l.now n)) (asked_in l.now) }
 {
     if !alike(field(l, 0), b"ask") {
-        return Checked::Refused(Refusal::LineNotDue(n));
+        return Err(Refusal::LineNotDue(n));
     }
     if field_count(l) != 3 {
-        return Checked::Refused(Refusal::FieldCount(n));
+        return Err(Refusal::FieldCount(n));
     }
-    if !(is_mode(field(l, 1)) & is_number(l, 2)) {
-        return Checked::Refused(Refusal::FieldForm(n));
+    let mode = field(l, 1);
+    if !is_mode(mode) {
+        return Err(Refusal::FieldForm(n));
     }
-    Checked::Fine
+    let k = number_in(l, 2).ok_or(Refusal::FieldForm(n))?;
+    Ok(Asked {
+        mode: mode_of(mode),
+        k: k as usize,
+    })
 }
 
-// The line due at i, counted from 0, in a design of p pins and a arcs.
-fn due_fine(p: usize, a: usize, i: usize, l: &[u8], n: usize) -> Checked
-    requires { (p < 10000000) × (a < 10000000) }
-    ensures { result ≡ checked_of (first_met (due_line p a i l.now n)) }
+// The line due at i, counted from 0.
+#[tactic(auto, unfolding(timing::specs::Text::due_line, timing::specs::Text::due_of, crate::specs::Scan::due_in, timing::specs::Line::pin_of, timing::specs::Line::four_of, lists::specs::Choice::pick))]
+fn due_line(design: Design, i: usize, l: &[u8], n: usize) -> Result<[u32; 4], Refusal>
+    ensures { MatchResult result
+        (λ vs. (first_met (due_line design.pins design.arcs i l.now n) ≡ none) × (due_in design.pins i vs ≡ due_of design.pins i l.now))
+        (λ r. first_met (due_line design.pins design.arcs i l.now n) ≡ some r) }
 {
-    if i < p {
-        return pin_fine(l, n);
+    if i < design.pins {
+        pin_line(l, n)
+    } else if i - design.pins < design.arcs {
+        four_line(b"arc", l, n)
+    } else {
+        four_line(b"test", l, n)
     }
-    if i < p + a {
-        return four_fine(b"arc", l, n);
-    }
-    four_fine(b"test", l, n)
 }
 
 // ---- the lines of a text
@@ -348,6 +320,8 @@ pub fn line(text: &[u8], n: usize) -> &[u8]
 }
 
 // Where line n begins; outside the lines the end.
+// Stays: docs/DECISIONS.md has `line` give the empty part at the end outside the lines, and this its place.
+#[tactic(auto, using(crate::proofs::Lines::line_starts))]
 pub fn line_start(text: &[u8], n: usize) -> usize
     ensures { (result ≡ line_start text.now n) × (result ≤ length text.now) }
 {
@@ -358,6 +332,8 @@ pub fn line_start(text: &[u8], n: usize) -> usize
 }
 
 // The place of the line behind the one that begins at `at`; the end where there is none, and `at` itself beyond it.
+// Stays: the end where there is none, since `next_line`, a public method that cannot fail, stands there then.
+#[tactic(auto, unfolding(crate::specs::Cut::over, lists::specs::Choice::pick))]
 pub fn next_at(text: &[u8], at: usize) -> usize
     ensures { result ≡ next_at 10 text.now at }
 {
@@ -365,10 +341,14 @@ pub fn next_at(text: &[u8], at: usize) -> usize
         return at;
     }
     let e = end_of(text, LINE_END, at);
-    if e < text.len() {
-        return e + 1;
-    }
-    e
+    if e < text.len() { e + 1 } else { e }
+}
+
+// What was taken from a text, and the place behind it.
+#[derive(Clone, Copy)]
+struct Taken<T> {
+    value: T,
+    next: usize,
 }
 
 // The reader over a text: the text itself and its place.
@@ -378,384 +358,261 @@ pub struct Reader<'a> {
     pub at: usize,
 }
 
-// A reader at a place of a text.
-pub fn open<'a>(text: &'a [u8], at: usize) -> Reader<'a>
-    ensures { (result.text ≡ text.entry) × (result.at ≡ at) }
-{
-    Reader { text, at }
-}
-
-// The reader at the next line; at the end where there is none.
-pub fn next_line<'a>(r: Reader<'a>) -> Reader<'a>
-    ensures { (result.text ≡ r.entry.text) × (result.at ≡ next_at 10 r.entry.text.now r.entry.at) }
-{
-    let n = next_at(r.text, r.at);
-    Reader {
-        text: r.text,
-        at: n,
+impl<'a> Reader<'a> {
+    // A reader at a place of a text.
+    pub fn open(text: &'a [u8], at: usize) -> Reader<'a>
+        ensures { (result.text ≡ text.entry) × (result.at ≡ at) }
+    {
+        Reader { text, at }
     }
-}
 
-// The reader's place.
-pub fn place<'a>(r: Reader<'a>) -> usize
-    ensures { result ≡ r.entry.at }
-{
-    r.at
-}
+    // The reader at the next line; at the end where there is none.
+    pub fn next_line(self) -> Reader<'a>
+        ensures { (result.text ≡ self.entry.text) × (result.at ≡ next_at 10 self.entry.text.now self.entry.at) }
+    {
+        Reader::open(self.text, next_at(self.text, self.at))
+    }
 
-// The place to which a reader at `at` goes for the next line.
-fn next_place(text: &[u8], at: usize) -> usize
-    ensures { result ≡ next_at 10 text.now at }
-{
-    place(next_line(open(text, at)))
-}
+    // The reader's place.
+    pub fn place(self) -> usize
+        ensures { result ≡ self.entry.at }
+    {
+        self.at
+    }
 
-// Where the line at `at` ends, its byte 10 or the text's end, from the place of the next line.
-fn line_end(text: &[u8], at: usize, next: usize) -> usize
-    requires { (at ≤ length text.now) × (next ≡ next_at 10 text.now at) }
-    ensures { (result ≡ end_at 10 text.now at) × ((at ≤ result) × (result ≤ length text.now)) }
-{
-    if at < next {
-        let last = next - 1;
-        if text[last] == LINE_END {
-            return last;
+    // The line at the reader's place, without its byte 10, if it has one.
+    fn whole_line(self) -> Option<Taken<&'a [u8]>>
+        requires { self.at ≤ length self.text.now }
+        ensures { let x = self.entry.text.now in let e = end_at 10 x self.entry.at in
+            MatchOption result (length x ≤ e) (λ l. (e < length x) × ((l.value.now ≡ line_from x self.entry.at) × (l.next ≡ next_at 10 x self.entry.at))) }
+    {
+        let next = self.next_line().place();
+        if self.at < next && self.text[next - 1] == LINE_END {
+            let value = &self.text[self.at..next - 1];
+            return Some(Taken { value, next });
         }
+        None
     }
-    next
 }
 
 // ---- plain lines: a line due without a fault, taken by one scan of its bytes; any other goes field by field, which says what is wrong with it
+// Stays: `number_at` takes a text and a place, and no reader: four numbers of a line would build four, and no line would be plainer.
 
-// A number and the place behind the byte that ends it; place 0 where no such number stands.
-#[derive(Clone, Copy)]
-struct Taken {
-    next: usize,
-    value: u32,
+// The digit that a byte is; a byte below `0` wraps round to far over 9.
+fn digit_of(b: u8) -> Option<u32>
+    ensures { MatchOption result (digit b ≡ false) (λ d. (d ≤ 9) × (b ≡ d + 48)) }
+{
+    let digit = u32::from(b).wrapping_sub(u32::from(b'0'));
+    (digit <= 9).then_some(digit)
 }
 
 // The number at a, ended by the byte c, in a text that ends with byte 10. No digit follows a leading zero, nor a seventh digit.
-fn number_at(s: &[u8], a: usize, c: u8) -> Taken
+// Stays: a loop that counts its place, which the caller wants; byte 10 ends it, so that no digit costs a test of the bound.
+#[inline(always)]
+fn number_at(s: &[u8], a: usize, c: u8) -> Option<Taken<u32>>
     requires { (a < length s.now) × (last_byte s.now ≡ 10) }
-    ensures { 0 < result.next → NumberTo c s.now a result.next result.value }
+    ensures { IfSome result (λ t. NumberTo c s.now a t.next t.value) }
 {
-    let mut v = digit_at(s, a);
-    if 9 < v {
-        return Taken { next: 0, value: 0 };
-    }
+    let mut value = digit_of(s[a])?;
     let mut i = a + 1;
-    let mut d = digit_at(s, i);
-    while d <= 9 {
-        if (v == 0) | (SIX_DIGITS < v) {
-            return Taken { next: 0, value: 0 };
+    while let Some(d) = digit_of(s[i]) {
+        if value == 0 || SIX_DIGITS < value {
+            return None;
         }
-        v = v * 10 + d;
+        value = value * 10 + d;
         i += 1;
-        d = digit_at(s, i);
     }
     if s[i] != c {
-        return Taken { next: 0, value: 0 };
+        return None;
     }
-    Taken {
-        next: i + 1,
-        value: v,
-    }
+    Some(Taken { value, next: i + 1 })
 }
 
-// The numbers of a line due, three of a pin, and the place of the next line; place 0 where the line is not plain.
-#[derive(Clone, Copy)]
-struct Due {
-    next: usize,
-    numbers: [u32; 4],
-}
-
-// What stands for a line that is not plain.
-const NOT_PLAIN: Due = Due {
-    next: 0,
-    numbers: [0; 4],
-};
-
-// Whether the word stands at `at` with a tab behind it, in a text that ends with byte 10.
-fn word_at(text: &[u8], at: usize, word: &[u8]) -> bool
-    requires { at ≤ length text.now }
-    ensures { result ≡ true → WordTo text.now at word.now }
-{
-    let n = text.len();
-    if n - at <= word.len() {
-        return false;
-    }
-    let e = at + word.len();
-    let stands = alike(&text[at..e], word);
-    stands & (text[e] == TAB) & (text[n - 1] == LINE_END)
-}
-
-// The line that begins at `at`, if it is the word and four numbers.
-fn four_at(text: &[u8], at: usize, word: &[u8]) -> Due
-    requires { (at ≤ length text.now) × All InField word.now }
-    ensures { 0 < result.next → PlainTo (four_line word.now) four_of text.now at result.next (all_four result.numbers) }
-{
-    if !word_at(text, at, word) {
-        return NOT_PLAIN;
-    }
-    let x = number_at(text, at + word.len() + 1, TAB);
-    if x.next == 0 {
-        return NOT_PLAIN;
-    }
-    let y = number_at(text, x.next, TAB);
-    if y.next == 0 {
-        return NOT_PLAIN;
-    }
-    let z = number_at(text, y.next, TAB);
-    if z.next == 0 {
-        return NOT_PLAIN;
-    }
-    let u = number_at(text, z.next, LINE_END);
-    Due {
-        next: u.next,
-        numbers: [x.value, y.value, z.value, u.value],
-    }
-}
-
-// The line that begins at `at`, if it is a `pin` line.
-fn pin_at(text: &[u8], at: usize) -> Due
-    requires { at ≤ length text.now }
-    ensures { 0 < result.next → PlainTo pin_line pin_of text.now at result.next (three_of result.numbers) }
-{
-    if !word_at(text, at, b"pin") {
-        return NOT_PLAIN;
-    }
-    let a = at + 4;
-    let k = kind_of(text[a]);
-    if k == NO_KIND {
-        return NOT_PLAIN;
-    }
-    let e = a + 1;
-    let next = e + 1;
-    if !has_times(k) {
-        if text[e] != LINE_END {
-            return NOT_PLAIN;
+impl Reader<'_> {
+    // The place behind the word at the reader's place and the tab behind it, in a text that ends with byte 10.
+    fn behind_word(self, word: &[u8]) -> Option<usize>
+        requires { self.at ≤ length self.text.now }
+        ensures { IfSome result (λ n. (n ≡ self.entry.at + length word.now + 1) × WordTo self.entry.text.now self.entry.at word.now) }
+    {
+        let Reader { text, at } = self;
+        let n = text.len();
+        if n - at <= word.len() {
+            return None;
         }
-        let numbers = [k, 0, 0, 0];
-        return Due { next, numbers };
+        let e = at + word.len();
+        if alike(&text[at..e], word) && text[e] == TAB && text[n - 1] == LINE_END {
+            return Some(e + 1);
+        }
+        None
     }
-    if text[e] != TAB {
-        return NOT_PLAIN;
-    }
-    let x = number_at(text, next, TAB);
-    if x.next == 0 {
-        return NOT_PLAIN;
-    }
-    let y = number_at(text, x.next, LINE_END);
-    Due {
-        next: y.next,
-        numbers: [k, x.value, y.value, 0],
-    }
-}
 
-// The line that begins at `at`, if it is the one due at i, counted from 0, in a design of p pins and a arcs.
-fn plain_at(text: &[u8], at: usize, p: usize, a: usize, i: usize) -> Due
-    requires { (at ≤ length text.now) × ((p < 100000000) × (a < 100000000)) }
-    ensures { 0 < result.next → PlainTo (due_line p a i) (due_of p i) text.now at result.next (due_in p i result.numbers) }
-{
-    if i < p {
-        return pin_at(text, at);
+    // The line at the reader's place, if it is the word and four numbers.
+    fn four_at(self, word: &[u8]) -> Option<Taken<[u32; 4]>>
+        requires { (self.at ≤ length self.text.now) × All InField word.now }
+        ensures { IfSome result (λ d. PlainTo (four_line word.now) four_of self.entry.text.now self.entry.at d.next (all_four d.value)) }
+    {
+        let a = self.behind_word(word)?;
+        let x = number_at(self.text, a, TAB)?;
+        let y = number_at(self.text, x.next, TAB)?;
+        let z = number_at(self.text, y.next, TAB)?;
+        let u = number_at(self.text, z.next, LINE_END)?;
+        let value = [x.value, y.value, z.value, u.value];
+        Some(Taken {
+            value,
+            next: u.next,
+        })
     }
-    if i < p + a {
-        return four_at(text, at, b"arc");
+
+    // The line at the reader's place, if it is a `pin` line.
+    fn pin_at(self) -> Option<Taken<[u32; 4]>>
+        requires { self.at ≤ length self.text.now }
+        ensures { IfSome result (λ d. PlainTo pin_line pin_of self.entry.text.now self.entry.at d.next (three_of d.value)) }
+    {
+        let a = self.behind_word(b"pin")?;
+        let kind = Kind::of_letter(self.text[a])?;
+        let e = a + 1;
+        let next = e + 1;
+        if !kind.has_times() {
+            if self.text[e] != LINE_END {
+                return None;
+            }
+            let value = [kind.number(), 0, 0, 0];
+            return Some(Taken { value, next });
+        }
+        if self.text[e] != TAB {
+            return None;
+        }
+        let x = number_at(self.text, next, TAB)?;
+        let y = number_at(self.text, x.next, LINE_END)?;
+        let value = [kind.number(), x.value, y.value, 0];
+        Some(Taken {
+            value,
+            next: y.next,
+        })
     }
-    four_at(text, at, b"test")
+
+    // The line at the reader's place, if it is the one due at i, counted from 0.
+    // Stays: the same choice as in `due_line`; an enum of the three kinds of line would be chosen by the same two tests and then matched twice.
+    #[tactic(auto, unfolding(timing::specs::Text::due_line, timing::specs::Text::due_of, crate::specs::Scan::due_in, lists::specs::Choice::pick))]
+    fn plain_at(self, design: Design, i: usize) -> Option<Taken<[u32; 4]>>
+        requires { self.at ≤ length self.text.now }
+        ensures { IfSome result (λ d. PlainTo (due_line design.pins design.arcs i) (due_of design.pins i) self.entry.text.now self.entry.at d.next (due_in design.pins i d.value)) }
+    {
+        if i < design.pins {
+            self.pin_at()
+        } else if i - design.pins < design.arcs {
+            self.four_at(b"arc")
+        } else {
+            self.four_at(b"test")
+        }
+    }
 }
 
 // ---- the first pass: everything but the table's room
 
-// The `design` line; the next line begins at `next`.
-fn design_at(text: &[u8], next: usize) -> Checked
-    requires { next ≡ next_at 10 text.now 0 }
-    ensures { result ≡ checked_of (first_met (line_grounds text.now 1 design_line)) }
+// The `design` line, which begins the text.
+fn design_at(text: &[u8]) -> Result<Taken<[u32; 4]>, Refusal>
+    ensures { MatchResult result
+        (λ d. (first_met (line_grounds text.now 1 design_line) ≡ none) × ((d.next ≡ start_of 10 text.now 1) × (d.value ≡ four_of (line_of text.now 1))))
+        (λ r. first_met (line_grounds text.now 1 design_line) ≡ some r) }
 {
-    let e = line_end(text, 0, next);
-    if e == text.len() {
-        return Checked::Refused(Refusal::LineNotDue(1));
-    }
-    design_fine(&text[0..e], 1)
+    let line = Reader::open(text, 0)
+        .whole_line()
+        .ok_or(Refusal::LineNotDue(1))?;
+    let numbers = design_line(line.value, 1)?;
+    Ok(Taken {
+        value: numbers,
+        next: line.next,
+    })
 }
 
-// The place behind a line due or several, or why one of them is refused.
-#[derive(Clone, Copy)]
-enum Passed {
-    Behind(usize),
-    Refused(Refusal),
-}
-
-// The line due at i, counted from 0, which begins at `at`.
-fn due_at(text: &[u8], at: usize, p: usize, a: usize, i: usize) -> Passed
-    requires { (at ≡ start_of 10 text.now (i + 1)) × ((p < 10000000) × ((a < 10000000) × (i < 100000000))) }
-    ensures { result ≡ passed_of (first_met (due_at text.now p a i)) (start_of 10 text.now (i + 2)) }
+// The line due at i, counted from 0, at which the reader stands.
+fn due_at(reader: Reader, design: Design, i: usize) -> Result<Taken<[u32; 4]>, Refusal>
+    requires here { reader.at ≡ start_of 10 reader.text.now (i + 1) }
+    requires few { i < 100000000 }
+    ensures { MatchResult result
+        (λ d. DueTo reader.entry.text.now design.pins design.arcs i d)
+        (λ r. first_met (due_at reader.entry.text.now design.pins design.arcs i) ≡ some r) }
 {
-    let q = plain_at(text, at, p, a, i);
-    if 0 < q.next {
-        return Passed::Behind(q.next);
+    if let Some(due) = reader.plain_at(design, i) {
+        return Ok(due);
     }
-    let next = next_place(text, at);
-    let e = line_end(text, at, next);
     let n = 2 + i;
-    if e == text.len() {
-        return Passed::Refused(Refusal::LineNotDue(n));
-    }
-    let c = due_fine(p, a, i, &text[at..e], n);
-    if let Checked::Refused(r) = c {
-        return Passed::Refused(r);
-    }
-    Passed::Behind(next)
+    let line = reader.whole_line().ok_or(Refusal::LineNotDue(n))?;
+    let numbers = due_line(design, i, line.value, n)?;
+    Ok(Taken {
+        value: numbers,
+        next: line.next,
+    })
 }
 
-// The n lines due, of which the first begins at `from`.
-fn due_lines(text: &[u8], from: usize, p: usize, a: usize, n: usize) -> Passed
-    requires { (from ≡ start_of 10 text.now 1) × ((p < 10000000) × ((a < 10000000) × (n < 100000000))) }
-    ensures { result ≡ passed_of (first_met (gather (due_at text.now p a) (below n))) (start_of 10 text.now (n + 1)) }
+// How many lines are due.
+fn lines_due(design: Design) -> usize
+    requires { (design.pins < 10000000) × ((design.arcs < 10000000) × (design.tests < 10000000)) }
+    ensures { result ≡ design.pins + design.arcs + design.tests }
 {
-    let mut i = 0;
-    let mut at = from;
-    while i < n {
-        let q = due_at(text, at, p, a, i);
-        match q {
-            Passed::Refused(r) => {
-                return Passed::Refused(r);
-            }
-            Passed::Behind(next) => {
-                at = next;
-            }
-        }
-        i += 1;
-    }
-    Passed::Behind(at)
+    design.pins + design.arcs + design.tests
 }
 
-// What is asked, or why the `ask` line is refused.
+// The n lines due, at whose first the reader stands; the place behind them.
+// Stays: the walk of `fill` again, four lines long; with a closure for what is done at a line its clause would be longer than they are.
+fn due_lines(mut reader: Reader, design: Design, n: usize) -> Result<usize, Refusal>
+    requires here { reader.at ≡ start_of 10 reader.text.now 1 }
+    requires few { n < 100000000 }
+    ensures { result ≡ told (first_met (gather (due_at reader.entry.text.now design.pins design.arcs) (below n))) (start_of 10 reader.entry.text.now (n + 1)) }
+{
+    for i in 0..n {
+        reader.at = due_at(reader, design, i)?.next;
+    }
+    Ok(reader.at)
+}
+
+// The `ask` line, line n, if bytes stand at the reader's place, where it begins; with none it is setup and 1.
+fn ask_at(reader: Reader, n: usize) -> Result<Asked, Refusal>
+    requires here { reader.at ≡ start_of 10 reader.text.now (n - 1) }
+    requires counted { (1 ≤ n) × (n < 1000000000) }
+    ensures { result ≡ told (first_met (ask_grounds reader.entry.text.now n)) (asked_at reader.entry.text.now n) }
+{
+    let end = reader.text.len();
+    if reader.at == end {
+        return Ok(Asked { mode: 0, k: 1 });
+    }
+    let line = reader.whole_line().ok_or(Refusal::LineNotDue(n))?;
+    let asked = ask_line(line.value, n)?;
+    if line.next < end {
+        return Err(Refusal::LineNotDue(n + 1));
+    }
+    Ok(asked)
+}
+
+// What the first pass finds: the sizes and what is asked.
 #[derive(Clone, Copy)]
-enum Asked {
-    Of { mode: u32, k: usize },
-    Refused(Refusal),
-}
-
-// The `ask` line, line n, if bytes stand at `at`, where it begins; with none it is setup and 1.
-fn ask_at(text: &[u8], at: usize, n: usize) -> Asked
-    requires { (at ≡ start_of 10 text.now (n - 1)) × ((1 ≤ n) × (n < 100000000)) }
-    ensures { result ≡ asked_of (first_met (ask_grounds text.now n)) text.now n }
-{
-    if at == text.len() {
-        return Asked::Of { mode: 0, k: 1 };
-    }
-    let next = next_place(text, at);
-    let e = line_end(text, at, next);
-    if e == text.len() {
-        return Asked::Refused(Refusal::LineNotDue(n));
-    }
-    let l = &text[at..e];
-    let c = ask_fine(l, n);
-    if let Checked::Refused(r) = c {
-        return Asked::Refused(r);
-    }
-    if next < text.len() {
-        return Asked::Refused(Refusal::LineNotDue(n + 1));
-    }
-    Asked::Of {
-        mode: mode_of(field(l, 1)),
-        k: number_in(l, 2),
-    }
-}
-
-// What the first pass finds: the sizes and what is asked, or why the text is refused.
-#[derive(Clone, Copy)]
-enum Surveyed {
-    Fine {
-        pins: usize,
-        arcs: usize,
-        tests: usize,
-        mode: u32,
-        k: usize,
-    },
-    Refused(Refusal),
-}
-
-// The sizes with what is asked, unless that is refused.
-fn found(q: Asked, pins: usize, arcs: usize, tests: usize) -> Surveyed
-    ensures { result ≡ found_of q pins arcs tests }
-{
-    match q {
-        Asked::Refused(r) => Surveyed::Refused(r),
-        Asked::Of { mode, k } => Surveyed::Fine {
-            pins,
-            arcs,
-            tests,
-            mode,
-            k,
-        },
-    }
+struct Survey {
+    design: Design,
+    asked: Asked,
 }
 
 // Refusals 1 to 4, in the order of document 01.
-fn survey(text: &[u8]) -> Surveyed
+fn first_pass(text: &[u8]) -> Result<Survey, Refusal>
     ensures { result ≡ survey_of text.now }
 {
     if Design::TEXT < text.len() {
-        return Surveyed::Refused(Refusal::TextLong);
+        return Err(Refusal::TextLong);
     }
-    let next = next_place(text, 0);
-    let c = design_at(text, next);
-    if let Checked::Refused(r) = c {
-        return Surveyed::Refused(r);
-    }
-    let e = line_end(text, 0, next);
-    let l = &text[0..e];
-    let p = number_in(l, 1);
-    let a = number_in(l, 2);
-    let t = number_in(l, 3);
-    let n = p + a + t;
-    let d = due_lines(text, next, p, a, n);
-    match d {
-        Passed::Refused(r) => Surveyed::Refused(r),
-        Passed::Behind(at) => found(ask_at(text, at, 2 + n), p, a, t),
-    }
+    let first = design_at(text)?;
+    let design = sizes(first.value);
+    let n = lines_due(design);
+    let at = due_lines(Reader::open(text, first.next), design, n)?;
+    let asked = ask_at(Reader::open(text, at), 2 + n)?;
+    Ok(Survey { design, asked })
 }
 
 // ---- the second pass: the table
 
-// The numbers of the line due at i, counted from 0. A pin has three: its kind, early and late, the times 0 where the kind has none.
-fn due_numbers(l: &[u8], p: usize, i: usize) -> [u32; 4]
-    ensures { due_in p i result ≡ due_of p i l.now }
-{
-    if i < p {
-        let k = letter_of(field(l, 1));
-        if has_times(k) {
-            let x = number(field(l, 2));
-            let y = number(field(l, 3));
-            return [k, x, y, 0];
-        }
-        return [k, 0, 0, 0];
-    }
-    let x = number(field(l, 1));
-    let y = number(field(l, 2));
-    let z = number(field(l, 3));
-    let u = number(field(l, 4));
-    [x, y, z, u]
-}
-
-// The numbers of the line due at i, counted from 0, which begins at `at`, in a design of p pins and a arcs, and the place of the next line.
-fn numbers_at(text: &[u8], at: usize, p: usize, a: usize, i: usize) -> Due
-    requires { (at ≤ length text.now) × ((p < 100000000) × (a < 100000000)) }
-    ensures { (result.next ≡ next_at 10 text.now at) × (due_in p i result.numbers ≡ due_of p i (line_from text.now at)) }
-{
-    let q = plain_at(text, at, p, a, i);
-    if 0 < q.next {
-        return q;
-    }
-    let next = next_place(text, at);
-    let e = line_end(text, at, next);
-    let numbers = due_numbers(&text[at..e], p, i);
-    Due { next, numbers }
-}
-
 // The numbers of the line due at i, written at w and behind it: three of a pin, else four; the place behind them.
+// Stays: a pin's numbers have a 0 behind them, and i tells a pin, as it does in `due_in`; in an enum of three or four numbers both would be said twice.
+// Stays: single stores, since a copy of three or four numbers is no plainer: its length would be chosen first, and its slices cut.
+#[tactic(auto, unfolding(crate::specs::Scan::due_in, lists::specs::Laws::Write::sets, lists::specs::Choice::pick))]
 fn put_due(table: &mut [u32], w: usize, numbers: [u32; 4], p: usize, i: usize) -> usize
     requires { w + length (due_in p i numbers) ≤ length table.old }
     ensures { (table.new ≡ sets table.old w (due_in p i numbers)) × (result ≡ w + length (due_in p i numbers)) }
@@ -773,47 +630,37 @@ fn put_due(table: &mut [u32], w: usize, numbers: [u32; 4], p: usize, i: usize) -
     z + 1
 }
 
-// The numbers of the first line, four as of a line that is no pin's, and of the n lines due, of which the first p are pins and the next a arcs.
-fn fill(text: &[u8], table: &mut [u32], p: usize, a: usize, n: usize)
-    requires { (p ≤ n) × ((a ≤ n) × ((n < 100000000) × (4 + 3 * p + 4 * (n - p) ≤ length table.old))) }
-    ensures { table.new ≡ sets table.old 0 (table_to text.now p n) }
+// The numbers of the first line and of the lines due. The first pass has refused none of them, and so none is refused here.
+fn fill(text: &[u8], table: &mut [u32], design: Design) -> Result<(), Refusal>
+    requires clean { Clean text.now design }
+    requires room { 4 + 3 * design.pins + 4 * design.arcs + 4 * design.tests ≤ length table.old }
+    ensures { (result ≡ Ok tt) × (table.new ≡ sets table.old 0 (table_to text.now design.pins (design.pins + design.arcs + design.tests))) }
 {
-    let second = next_place(text, 0);
-    let first = line_end(text, 0, second);
-    let sizes = due_numbers(&text[0..first], 0, 0);
-    let mut at = second;
-    let mut w = put_due(table, 0, sizes, 0, 0);
-    let mut i = 0;
-    while i < n {
-        let q = numbers_at(text, at, p, a, i);
-        let numbers = q.numbers;
-        w = put_due(table, w, numbers, p, i);
-        at = q.next;
-        i += 1;
+    let first = design_at(text)?;
+    let mut w = put_due(table, 0, first.value, 0, 0);
+    let mut reader = Reader::open(text, first.next);
+    for i in 0..lines_due(design) {
+        let due = due_at(reader, design, i)?;
+        w = put_due(table, w, due.value, design.pins, i);
+        reader.at = due.next;
     }
+    Ok(())
 }
 
 // Reads a text: refused, with the room as it was, or the table's length, the mode and k, with the table at the room's front.
 // Nothing is written before the last line and the room are accepted.
-pub fn read(text: &[u8], table: &mut [u32]) -> Reading
+pub fn read(text: &[u8], table: &mut [u32]) -> Result<Reading, Refusal>
     ensures { ReadAllows text.now table.old result table.new }
 {
-    let s = survey(text);
-    match s {
-        Surveyed::Refused(r) => Reading::Refused(r),
-        Surveyed::Fine {
-            pins,
-            arcs,
-            tests,
-            mode,
-            k,
-        } => {
-            let length = 4 + 3 * pins + 4 * arcs + 4 * tests;
-            if table.len() < length {
-                return Reading::Refused(Refusal::TableRoom);
-            }
-            fill(text, table, pins, arcs, pins + arcs + tests);
-            Reading::Read { length, mode, k }
-        }
+    let Survey { design, asked } = first_pass(text)?;
+    let length = design.table_length();
+    if table.len() < length {
+        return Err(Refusal::TableRoom);
     }
+    fill(text, table, design)?;
+    Ok(Reading {
+        length,
+        mode: asked.mode,
+        k: asked.k,
+    })
 }

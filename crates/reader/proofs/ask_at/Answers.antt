@@ -1,47 +1,58 @@
 -- `reader::ask_at` meets its contract. The grounds of the `ask` line, one return for each. Assumes nothing.
-use Rattle.std.proofs.Common.{◌≡◌, suc, ◌-◌, sym, refl, ◌∙◌, add-one, arith}
+use Rattle.std.proofs.Common.{◌≡◌, suc, ◌-◌, ◌<◌, length, sym, refl, ◌∙◌, add-one, arith}
+use Rattle.std.proofs.lemmas.Result.{err_from_is_err_and}
+use Rattle.lists.specs.Laws.Cut.{end_at}
+use Rattle.timing.specs.Line.{ask_line}
 use Rattle.reader.specs.Cut.{start-most}
-use Rattle.reader.proofs.Grounds.{checked-some, checked-none, ask-none, ask-refused, ask-follows, ask-read}
+use Rattle.reader.proofs.Told.{told-ok, told-err, ok_or-some, ok_or-none}
+use Rattle.reader.proofs.Grounds.{ask-none, ask-refused, ask-follows, ask-read}
 use Rattle.reader.proofs.Lines.{line-there, line-absent, next-line-at, more-some, more-none}
 use Rattle.reader.proofs.ask_at.Goals as goal
 
-pub returns-then-at-text : goal.returns-then-at-text
-returns-then-at-text c =
-    let k : c.args.n ≡ suc (c.args.n - 1) = omega (arith, c.requires.1.0) in
-    let b = start-most 10 c.args.text.now (c.args.n - 1) in
-    sym (ask-none _ _ _ _ _ c.requires.0 refl k (omega arith))
+pub returns-then-reader-end : goal.returns-then-reader-end
+returns-then-reader-end c =
+    let k : c.args.n ≡ suc (c.args.n - 1) = omega (arith, c.requires.counted.0) in
+    sym (ask-none c.args.reader.text.now (c.args.n - 1) c.args.reader.at (end_at 10 c.args.reader.text.now c.args.reader.at) c.args.n c.requires.here refl k (omega arith))
 
-pub line_end-e-requires : goal.line_end-e-requires
-line_end-e-requires c = (omega (arith, c.requires.0, start-most 10 c.args.text.now (c.args.n - 1)), c.next_place-next.ensures)
+pub whole_line-requires : goal.whole_line-requires
+whole_line-requires c = omega (arith, c.requires.here, start-most 10 c.args.reader.text.now (c.args.n - 1))
 
-pub returns-then-e-text : goal.returns-then-e-text
-returns-then-e-text c =
-    let k : c.args.n ≡ suc (c.args.n - 1) = omega (arith, c.requires.1.0) in
-    let b = start-most 10 c.args.text.now (c.args.n - 1) in
-    let g = c.line_end-e.ensures.0 in
-    sym (ask-refused _ _ _ _ _ c.requires.0 g k (omega (arith, c.requires.0, b)) _ (line-absent _ _ _ _ _ c.requires.0 g k _ (omega arith)))
+pub returns-in_err-line : goal.returns-in_err-line
+returns-in_err-line c =
+    let k : c.args.n ≡ suc (c.args.n - 1) = omega (arith, c.requires.counted.0) in
+    let b = start-most 10 c.args.reader.text.now (c.args.n - 1) in
+    let lt : c.args.reader.at < length c.args.reader.text.now = omega (arith, c.requires.here, b) in
+    let p = err_from_is_err_and c.from_residual.result c.from_residual.ensures.1 in
+    let q = ok_or-none _ _ _ c.in_err-line.ensures.value in
+    let o = rw q.0 at c.whole_line.ensures in
+    rw (p.1, p.2, q.1) (sym (ask-refused c.args.reader.text.now (c.args.n - 1) c.args.reader.at (end_at 10 c.args.reader.text.now c.args.reader.at) c.args.n c.requires.here refl k lt _ (line-absent c.args.reader.text.now (c.args.n - 1) c.args.reader.at (end_at 10 c.args.reader.text.now c.args.reader.at) c.args.n c.requires.here refl k ask_line o)))
 
-pub returns-in-Refused : goal.returns-in-Refused
-returns-in-Refused c =
-    let k : c.args.n ≡ suc (c.args.n - 1) = omega (arith, c.requires.1.0) in
-    let b = start-most 10 c.args.text.now (c.args.n - 1) in
-    let g = c.line_end-e.ensures.0 in
-    sym (ask-refused _ _ _ _ _ c.requires.0 g k (omega (arith, c.requires.0, b)) _ (line-there _ _ _ _ _ c.requires.0 g k _ (omega arith) ∙ checked-some _ _ (sym c.ask_fine-c.ensures ∙ c.in-Refused.is)))
+pub returns-in_err-asked : goal.returns-in_err-asked
+returns-in_err-asked c =
+    let k : c.args.n ≡ suc (c.args.n - 1) = omega (arith, c.requires.counted.0) in
+    let b = start-most 10 c.args.reader.text.now (c.args.n - 1) in
+    let lt : c.args.reader.at < length c.args.reader.text.now = omega (arith, c.requires.here, b) in
+    let p = err_from_is_err_and c.from_residual-in_err-asked.result c.from_residual-in_err-asked.ensures.1 in
+    let w = rw (ok_or-some _ _ _ c.in_ok-line.ensures.value) at c.whole_line.ensures in
+    rw (p.1, p.2) (sym (ask-refused c.args.reader.text.now (c.args.n - 1) c.args.reader.at (end_at 10 c.args.reader.text.now c.args.reader.at) c.args.n c.requires.here refl k lt _ (line-there c.args.reader.text.now (c.args.n - 1) c.args.reader.at (end_at 10 c.args.reader.text.now c.args.reader.at) c.args.n c.requires.here refl k ask_line w.0 ∙ rw (← w.1.0) (told-err _ _ _ c.in_err-asked.ensures))))
 
-pub returns-then-next-text : goal.returns-then-next-text
-returns-then-next-text c =
-    let k : c.args.n ≡ suc (c.args.n - 1) = omega (arith, c.requires.1.0) in
-    let b = start-most 10 c.args.text.now (c.args.n - 1) in
-    let g = c.line_end-e.ensures.0 in
-    let z = line-there _ _ _ _ _ c.requires.0 g k _ (omega arith) ∙ checked-none _ (sym c.ask_fine-c.ensures ∙ c.in_default.is) in
-    let y = c.next_place-next.ensures ∙ next-line-at _ _ _ _ _ c.requires.0 g k in
-    sym (ask-follows _ _ _ _ _ c.requires.0 g k (omega (arith, c.requires.0, b)) z (more-some _ c.args.n _ _ _ y refl (add-one _) c.if-next-text.true))
+pub returns-then-line-end : goal.returns-then-line-end
+returns-then-line-end c =
+    let k : c.args.n ≡ suc (c.args.n - 1) = omega (arith, c.requires.counted.0) in
+    let b = start-most 10 c.args.reader.text.now (c.args.n - 1) in
+    let lt : c.args.reader.at < length c.args.reader.text.now = omega (arith, c.requires.here, b) in
+    let w = rw (ok_or-some _ _ _ c.in_ok-line.ensures.value) at c.whole_line.ensures in
+    let z = line-there c.args.reader.text.now (c.args.n - 1) c.args.reader.at (end_at 10 c.args.reader.text.now c.args.reader.at) c.args.n c.requires.here refl k ask_line w.0 ∙ rw (← w.1.0) (told-ok _ _ _ c.in_ok-asked.ensures).0 in
+    let y = w.1.1 ∙ next-line-at c.args.reader.text.now (c.args.n - 1) c.args.reader.at (end_at 10 c.args.reader.text.now c.args.reader.at) c.args.n c.requires.here refl k in
+    sym (ask-follows c.args.reader.text.now (c.args.n - 1) c.args.reader.at (end_at 10 c.args.reader.text.now c.args.reader.at) c.args.n c.requires.here refl k lt z (more-some _ c.args.n _ _ _ y refl (add-one _) c.if-line-end.true))
 
 pub returns : goal.returns
 returns c =
-    let k : c.args.n ≡ suc (c.args.n - 1) = omega (arith, c.requires.1.0) in
-    let b = start-most 10 c.args.text.now (c.args.n - 1) in
-    let g = c.line_end-e.ensures.0 in
-    let z = line-there _ _ _ _ _ c.requires.0 g k _ (omega arith) ∙ checked-none _ (sym c.ask_fine-c.ensures ∙ c.in_default.is) in
-    let y = c.next_place-next.ensures ∙ next-line-at _ _ _ _ _ c.requires.0 g k in
-    sym (ask-read _ _ _ _ _ c.requires.0 g k (omega (arith, c.requires.0, b)) z (more-none _ c.args.n _ _ _ y refl (add-one _) c.if-next-text.false) ∙ rw (c.number_in.ensures, c.mode_of.ensures, c.field.ensures) refl)
+    let k : c.args.n ≡ suc (c.args.n - 1) = omega (arith, c.requires.counted.0) in
+    let b = start-most 10 c.args.reader.text.now (c.args.n - 1) in
+    let lt : c.args.reader.at < length c.args.reader.text.now = omega (arith, c.requires.here, b) in
+    let w = rw (ok_or-some _ _ _ c.in_ok-line.ensures.value) at c.whole_line.ensures in
+    let t = told-ok _ _ _ c.in_ok-asked.ensures in
+    let z = line-there c.args.reader.text.now (c.args.n - 1) c.args.reader.at (end_at 10 c.args.reader.text.now c.args.reader.at) c.args.n c.requires.here refl k ask_line w.0 ∙ rw (← w.1.0) t.0 in
+    let y = w.1.1 ∙ next-line-at c.args.reader.text.now (c.args.n - 1) c.args.reader.at (end_at 10 c.args.reader.text.now c.args.reader.at) c.args.n c.requires.here refl k in
+    rw (t.1, w.1.0) (sym (ask-read c.args.reader.text.now (c.args.n - 1) c.args.reader.at (end_at 10 c.args.reader.text.now c.args.reader.at) c.args.n c.requires.here refl k lt z (more-none _ c.args.n _ _ _ y refl (add-one _) c.if-line-end.false)))

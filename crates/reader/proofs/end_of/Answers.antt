@@ -1,26 +1,18 @@
--- `reader::end_of` meets its contract. No byte b was passed, so the end is that of the rest. Assumes nothing.
-use Rattle.std.proofs.Common.{sym, refl, ◌∙◌, rules}
-use Rattle.lists.proofs.Laws.Cut.{end-hit, end-miss, end-over}
+-- `reader::end_of` meets its contract. The first byte b of the rest, or its length. Assumes nothing.
+use Rattle.std.specs.Prelude.{ℕ, Bool, List}
+use Rattle.std.proofs.Common.{rules, tests, ◌≡◌, ◌+◌, ◌-◌, eqb, length, take, drop, take_all, ap, ◌∙◌, arith, length-drop}
+use Rattle.std.proofs.lemmas.Iterator.{YieldsList-from_slice}
+use Rattle.std.proofs.lemmas.Iterator.Search.{position_from_yields_List}
+use Rattle.lists.specs.Laws.Cut.{reach}
+use Rattle.lists.proofs.Laws.Cut.{end-most}
+use Rattle.reader.proofs.Places.{found}
 use Rattle.reader.proofs.end_of.Goals as goal
 
-pub loop-i-init : goal.loop-i-init
-loop-i-init c = (search rules, (search rules, refl))
-
-pub returns-then-s-i : goal.returns-then-s-i
-returns-then-s-i c = let s = c.args in (
-  sym (end-hit s.b s.s.now c.loop-i.i c.loop-i-test.true c.if-s-i.true) ∙ c.loop-i.invariant.1.1,
-  (search rules, search rules),
-)
-
-pub loop-i-preserved : goal.loop-i-preserved
-loop-i-preserved c = let s = c.args in (
-  search rules,
-  (
-    search rules,
-    end-miss s.b s.s.now c.loop-i.i c.loop-i-test.true c.if-s-i.false ∙ c.loop-i.invariant.1.1,
-  ),
-)
-
 pub returns : goal.returns
-returns c = let s = c.args in
-    (sym (end-over s.b s.s.now c.loop-i.i c.loop-i-test.false) ∙ c.loop-i.invariant.1.1, (search rules, search rules))
+returns c =
+    let t : ℕ → Bool = λ x. eqb x c.args.b in
+    let rest : List ℕ = take (length c.args.s.now - c.args.a) (drop c.args.a c.args.s.now) in
+    let w : rest ≡ drop c.args.a c.args.s.now = take_all _ _ (omega (arith, length-drop c.args.a c.args.s.now)) in
+    let f = found c.args.b rest c.position.result (position_from_yields_List t _ _ c.position.result c.position.ensures.ran (YieldsList-from_slice rest cc) (λ x b q k. search (rules, tests))) in
+    let e : c.unwrap_or.result ≡ reach c.args.b (drop c.args.a c.args.s.now) = c.unwrap_or.ensures ∙ f ∙ ap (reach c.args.b) w in
+    (ap (λ (n : ℕ). c.args.a + n) e, (omega arith, omega (arith, e, end-most c.args.b c.args.s.now c.args.a c.requires)))

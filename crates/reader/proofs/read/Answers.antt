@@ -1,54 +1,35 @@
 -- `reader::read` meets its contract. The first pass, the room, the second pass. Assumes nothing.
-use Rattle.std.proofs.Common.{length, sym, refl, ap, ◌∙◌, arith}
-use Rattle.lists.proofs.Laws.Write.{length-sets}
-use Rattle.timing.specs.Text.{reading_of, reading, filled_of, room_filled}
-use Rattle.reader.proofs.Grounds.{survey-refused, survey-fine, fault-early, fault-short, fault-none, length-is, table-stands, small}
+use Rattle.std.proofs.Common.{length, refl, ◌∙◌, arith}
+use Rattle.std.proofs.lemmas.Result.{err_from_is_err_and}
+use Rattle.timing.specs.Text.{reading_of, reading, filled_of, room_filled, mode_asked, k_asked}
+use Rattle.reader.proofs.Grounds.{small, survey-clean, survey-refused, fault-early, fault-short, fault-none, length-is, table-stands}
 use Rattle.reader.proofs.read.Goals as goal
 
-pub overflow_mul-length : goal.overflow_mul-length
-overflow_mul-length c = omega (arith, small _ _ _ _ _ _ (survey-fine _ _ _ _ _ _ (sym c.survey-s.ensures ∙ c.in-Fine.is)))
+pub returns-in_err-design : goal.returns-in_err-design
+unfolding reading reading_of room_filled filled_of
+returns-in_err-design c =
+    let p = err_from_is_err_and c.from_residual.result c.from_residual.ensures.1 in
+    let e = fault-early _ (length c.args.table.now) _ (survey-refused _ _ c.in_err-design.ensures) in
+    (rw (p.1, p.2, e) refl, rw e refl)
 
-pub overflow_add-length : goal.overflow_add-length
-overflow_add-length c = omega (arith, small _ _ _ _ _ _ (survey-fine _ _ _ _ _ _ (sym c.survey-s.ensures ∙ c.in-Fine.is)))
-
-pub overflow_mul-length-in-Fine : goal.overflow_mul-length-in-Fine
-overflow_mul-length-in-Fine c = omega (arith, small _ _ _ _ _ _ (survey-fine _ _ _ _ _ _ (sym c.survey-s.ensures ∙ c.in-Fine.is)))
-
-pub overflow_add-length-in-Fine : goal.overflow_add-length-in-Fine
-overflow_add-length-in-Fine c = omega (arith, small _ _ _ _ _ _ (survey-fine _ _ _ _ _ _ (sym c.survey-s.ensures ∙ c.in-Fine.is)))
-
-pub overflow_mul-length-in-Fine-2 : goal.overflow_mul-length-in-Fine-2
-overflow_mul-length-in-Fine-2 c = omega (arith, small _ _ _ _ _ _ (survey-fine _ _ _ _ _ _ (sym c.survey-s.ensures ∙ c.in-Fine.is)))
-
-pub overflow_add-length-in-Fine-2 : goal.overflow_add-length-in-Fine-2
-overflow_add-length-in-Fine-2 c = omega (arith, small _ _ _ _ _ _ (survey-fine _ _ _ _ _ _ (sym c.survey-s.ensures ∙ c.in-Fine.is)))
+pub table_length-length-requires : goal.table_length-length-requires
+table_length-length-requires c =
+    let s = small _ _ (survey-clean _ _ c.in_ok-design.ensures).0.sizes in
+    record { few = (omega (arith, s.0), (omega (arith, s.1.0), omega (arith, s.1.1))) }
 
 pub returns-then-table-length : goal.returns-then-table-length
 unfolding reading reading_of room_filled filled_of
-returns-then-table-length c = let e = fault-short _ _ _ _ _ _ (survey-fine _ _ _ _ _ _ (sym c.survey-s.ensures ∙ c.in-Fine.is)) (length c.args.table.now) c.if-table-length.true in
+returns-then-table-length c =
+    let w = survey-clean _ _ c.in_ok-design.ensures in
+    let e = fault-short _ _ w.0 (length c.args.table.now) (rw c.table_length-length.ensures at c.if-table-length.true) in
     (rw e refl, rw e refl)
 
-pub overflow_add-pins : goal.overflow_add-pins
-overflow_add-pins c = omega (arith, small _ _ _ _ _ _ (survey-fine _ _ _ _ _ _ (sym c.survey-s.ensures ∙ c.in-Fine.is)))
+pub fill-requires-clause-clean : goal.fill-requires-clause-clean
+fill-requires-clause-clean c = (survey-clean _ _ c.in_ok-design.ensures).0
 
-pub overflow_add-pins-in-Fine : goal.overflow_add-pins-in-Fine
-overflow_add-pins-in-Fine c = omega (arith, small _ _ _ _ _ _ (survey-fine _ _ _ _ _ _ (sym c.survey-s.ensures ∙ c.in-Fine.is)))
-
-pub fill-requires : goal.fill-requires
-fill-requires c = let s = small _ _ _ _ _ _ (survey-fine _ _ _ _ _ _ (sym c.survey-s.ensures ∙ c.in-Fine.is)) in
-    (omega arith, (omega (arith, s), omega arith))
-
-pub returns-in-Refused : goal.returns-in-Refused
-unfolding reading reading_of room_filled filled_of
-returns-in-Refused c = let e = fault-early _ (length c.args.table.now) _ (survey-refused _ _ (sym c.survey-s.ensures ∙ c.in-Refused.is)) in
-    (rw e refl, rw e refl)
-
-pub shape_of-table : goal.shape_of-table
-shape_of-table c = ap length c.fill.ensures ∙ simp length-sets
-
-pub returns-else-table-length : goal.returns-else-table-length
-unfolding reading reading_of room_filled filled_of
-returns-else-table-length c =
-    let f = survey-fine _ _ _ _ _ _ (sym c.survey-s.ensures ∙ c.in-Fine.is) in
-    let e = fault-none _ _ _ _ _ _ f (length c.args.table.now) (omega arith) in
-    (rw (e, length-is _ _ _ _ _ _ f, ← f.mode-is, ← f.k-is) refl, rw e (c.fill.ensures ∙ table-stands _ _ _ _ _ _ f _ (omega arith)))
+pub returns : goal.returns
+unfolding reading reading_of room_filled filled_of mode_asked k_asked
+returns c =
+    let w = survey-clean _ _ c.in_ok-design.ensures in
+    let e = fault-none _ _ w.0 (length c.args.table.now) (rw c.table_length-length.ensures at c.if-table-length.false) in
+    (rw (e, c.table_length-length.ensures, length-is _ _ w.0, w.1) refl, rw e (c.fill.ensures.1 ∙ table-stands _ _ w.0 _ (omega arith)))
