@@ -15,13 +15,18 @@
 --     7,681           not used
 -- The arcs, firsts and seeds are what the walks of a test are gone through by: its plan.
 -- Assumes nothing.
-use Rattle.std.specs.Prelude.{◌≡◌, List, ℕ, ◌+◌, ◌*◌, ◌/◌, ◌%◌, ◌≤◌, ◌<◌, length, get_or, take, drop}
+use Rattle.std.specs.Prelude.{◌≡◌, List, ℕ, ◌+◌, ◌*◌, ◌/◌, ◌%◌, ◌≤◌, ◌<◌, length, get_or, take, drop, ltb, Option}
+use Rattle.std.specs.Bool.{then_some}
 use Rattle.timing.specs.Limits.{most_pins, most_arcs, most_k}
 use Rattle.timing.specs.Table.{Edge, early, late}
 
 -- no start, no driver, no walk: 2 ^ 60, above every value
 abbrev pub none : ℕ
 none = 1152921504606846976
+
+-- a word of the area, where it is not `none`
+abbrev pub given : ℕ → Option ℕ
+given x = then_some (ltb x none) x
 
 -- ---- where the parts begin
 

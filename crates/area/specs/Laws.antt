@@ -1,3 +1,4 @@
 -- The laws of the definitions.
 pub mod Kept
 pub mod Plan
+pub mod Given

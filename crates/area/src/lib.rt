@@ -1,8 +1,9 @@
 // The work area, part by part: where each part begins, and how a word of it is read. Each part begins where the one before it ends.
+// Stays: places in one slice, since the caller lends the whole area as 64-bit words (no heap, fixed memory).
 #![tactic(auto)]
 
 ghost use Rattle.std.specs.Prelude.{◌≡◌, ◌<◌};
-ghost use Rattle.area.specs.Area.{packed, weight_in, from_in, arc_in};
+ghost use Rattle.area.specs.Area.{given, packed, weight_in, from_in, arc_in};
 
 use timing::Design;
 
@@ -52,9 +53,18 @@ pub const TURNS: usize = BASES + Design::PINS;
 pub const END: usize = TURNS + Design::PINS;
 
 // No start, no driver, no walk: above every value.
+// Stays: a number, since a lent word has no room for an Option.
 pub const NONE: u64 = 1152921504606846976;
 
+// A word of the area, where it is not NONE.
+pub fn given(word: u64) -> Option<u64>
+    ensures { result ≡ given word }
+{
+    (word < NONE).then_some(word)
+}
+
 // An arc in one word: what it adds to a value, the pin that it leaves, and its number.
+// Stays: packed into a lent word, with a reader for each part; docs/DECISIONS.md names them.
 pub fn word_of(weight: u64, from: u64, arc: u64) -> u64
     requires { (weight < 4294967296) × (from < 256) × (arc < 1024) }
     ensures { result ≡ packed weight from arc }

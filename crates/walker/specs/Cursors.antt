@@ -1,7 +1,6 @@
 -- A cursor: a place in the walks of a test, and what a step from it does to what is still to come.
 -- Assumes nothing.
-use Rattle.std.specs.Prelude.{◌≡◌, true, false, List, [], ◌∷◌, ◌++◌, ℕ, suc, ◌+◌, ◌-◌, ◌*◌, ◌≤◌, ◌<◌, ltb, length, get_or}
-use Rattle.lists.specs.Choice.{pick}
+use Rattle.std.specs.Prelude.{◌≡◌, ◌≢◌, true, false, List, [], ◌∷◌, ◌++◌, ℕ, suc, ◌+◌, ◌-◌, ◌*◌, ◌≤◌, ◌<◌, length, get_or}
 use Rattle.lists.specs.Laws.Member.{All}
 use Rattle.timing.specs.Structure.{Structure, pins, arcs, leaves, enters}
 use Rattle.timing.specs.Paths.{is_start}
@@ -12,6 +11,8 @@ use Rattle.area.specs.Area as area
 use Rattle.arcs.specs.Laid.{Arcs, Seeds}
 use Rattle.walker.specs.Rest.{pin_in, place_in, turns, onto, came, rest, size}
 use Rattle.walker.specs.declared.Cursor.{Cursor}
+use Rattle.walker.specs.declared.State.{State}
+use Rattle.walker.specs.declared.State.TheVariants.{Going, Found, Ended}
 
 -- the arcs and the seeds stand in the plan
 pub record Planned (s : Structure) (weight seed : ℕ → ℕ) (m : List ℕ) : Type 0 where
@@ -35,7 +36,7 @@ end_at w c = get_or w (firsts_at + c.pin + 1) 0
 
 -- before the first walk from a pin
 abbrev pub begin_at : List ℕ → ℕ → Cursor
-begin_at w v = record { depth = 0; pin = v; place = get_or w (firsts_at + v) 0; sum = 0; value = none; more = true; out = none }
+begin_at w v = record { depth = 0; pin = v; place = get_or w (firsts_at + v) 0; sum = 0; state = Going; out = none }
 
 -- place p of pin v behind the turns: no deeper than there are pins, so what the turns weigh fits a word
 pub record Placed (s : Structure) (level : ℕ → ℕ) (m ts : List ℕ) (v p : ℕ) : Type 0 where
@@ -77,13 +78,24 @@ walk_at w d p = onto (turns d w) (plan w) (arc_in (word_at (plan w) (p - 1)) ∷
 abbrev pub walk_of : List ℕ → Cursor → List ℕ
 walk_of w c = walk_at w c.depth c.place
 
+-- the walk u, if the cursor found one
+abbrev pub found_as : State → List ℕ → List (List ℕ)
+found_as Going u = []
+found_as (Found v) u = u ∷ []
+found_as Ended u = []
+
 -- the walk that the cursor found, if it did
 unfoldable pub found : List ℕ → Cursor → List (List ℕ)
-found w c = pick (ltb c.value none) (walk_of w c ∷ []) []
+found w c = found_as c.state (walk_of w c)
 
--- how far a cursor can go
+-- how far a cursor can go, if it goes on
+abbrev pub reach_as : State → ℕ → ℕ
+reach_as Going n = suc n
+reach_as (Found v) n = 0
+reach_as Ended n = 0
+
 unfoldable pub reach : List ℕ → Cursor → ℕ
-reach w c = pick c.more (suc (size (256 - c.depth) (plan w) (turns c.depth w) c.pin c.place)) 0
+reach w c = reach_as c.state (size (256 - c.depth) (plan w) (turns c.depth w) c.pin c.place)
 
 -- of what was to come some walks were left out, none with a value below the bound or below the least that the cursor passed over, and at most one was found; the
 -- others are still to come
@@ -91,10 +103,9 @@ pub record Passed (s : Structure) (weight seed : ℕ → ℕ) (under : ℕ) (bef
   pub cut : List (List ℕ)
   pub is : before ≡ cut ++ (found w c ++ coming s w c)
   pub out : All (λ u. (under ≤ value_of s weight seed u) × (c.out ≤ value_of s weight seed u)) cut
-  pub value : All (λ u. (c.value ≡ value_of s weight seed u) × (c.value < under)) (found w c)
-  pub done : c.more ≡ false → none ≤ c.value → coming s w c ≡ []
-  pub fresh : c.more ≡ true → c.value ≡ none
-  pub taken : c.value < none → first_at (plan w) c.pin < c.place
+  pub value : (v : ℕ) → c.state ≡ Found v → (v ≡ value_of s weight seed (walk_of w c)) × (v < under)
+  pub done : c.state ≡ Ended → coming s w c ≡ []
+  pub taken : (v : ℕ) → c.state ≡ Found v → first_at (plan w) c.pin < c.place
 
 -- nothing is new in the work area but the turns
 abbrev pub Kept : List ℕ → List ℕ → Type 0
@@ -109,7 +120,7 @@ pub record Went (s : Structure) (weight seed : ℕ → ℕ) (under : ℕ) (w₀ 
 -- a step, for whatever structure the work area is laid
 pub record Step (under : ℕ) (w₀ : List ℕ) (c₀ : Cursor) (w : List ℕ) (c : Cursor) : Type 0 where
   pub went : (s : Structure) (weight seed : ℕ → ℕ) → On s weight seed w₀ c₀ → Went s weight seed under w₀ c₀ w c
-  pub less : c₀.more ≡ true → reach w c < reach w₀ c₀
+  pub less : c₀.state ≡ Going → reach w c < reach w₀ c₀
 
 -- steps, for whatever structure the work area is laid
 abbrev pub Gone : ℕ → List ℕ → Cursor → List ℕ → Cursor → Type 0
@@ -118,4 +129,4 @@ Gone under w₀ c₀ w c = (s : Structure) (weight seed : ℕ → ℕ) → On s 
 -- steps up to the next walk below the bound, or to the end
 pub record Next (under : ℕ) (w₀ : List ℕ) (c₀ : Cursor) (w : List ℕ) (c : Cursor) : Type 0 where
   pub gone : Gone under w₀ c₀ w c
-  pub ended : c.more ≡ false
+  pub ended : c.state ≢ Going

@@ -2,14 +2,12 @@
 -- Assumes nothing.
 use Rattle.std.specs.Prelude.{◌≡◌}
 use Rattle.std.proofs.Math.Path.{refl, sym, ap}
-use Rattle.std.proofs.Common.{◌∙◌, true≢false}
-use Rattle.std.proofs.lemmas.Bool.{false≢true}
+use Rattle.std.proofs.Common.{◌∙◌}
 use mathlib.Core.List.{List, [], ◌∷◌}
 use Prim.Native.Nat.{ℕ, suc, ◌+◌, ◌-◌, ◌≤◌, ◌<◌}
 use Rattle.std.proofs.Math.Numerals.{add-one}
 use native.Mathlib.Omega.{arith}
 use Rattle.std.proofs.Math.ListN.{get_or, length-set}
-use Rattle.lists.specs.Choice.{pick}
 use Rattle.lists.specs.Parts.{each}
 use Rattle.lists.proofs.Laws.Member.{all_map}
 use Rattle.timing.specs.Structure.{Structure, pins, leaves}
@@ -20,7 +18,7 @@ use Rattle.area.specs.Area.{none, plan, word_at, first_at, weight_in, from_in, a
 use Rattle.area.specs.Laws.Kept.{kept-none, kept_set}
 use Rattle.area.specs.Laws.Plan.{first-at}
 use Rattle.walker.specs.Rest.{turn, pin_in, place_in, turns, onto, came}
-use Rattle.walker.specs.Cursors.{least_at, On, Ready, coming, walk_at, found, reach, Went, Step}
+use Rattle.walker.specs.Cursors.{least_at, On, Ready, coming, walk_at, walk_of, found, reach, Went, Step}
 use Rattle.walker.specs.Laws.Least.{value-onto, bound-over}
 use Rattle.walker.specs.Laws.Size.{size-past, size-deeper}
 use Rattle.walker.specs.declared.Cursor.{Cursor}
@@ -65,15 +63,14 @@ module _ (under : ℕ) (w : List ℕ) (c : Cursor) (h : c.place < get_or w (firs
             out = all_map (λ u. bound_here w c ≤ value_of s weight seed u) (λ u. (under ≤ value_of s weight seed u) × (o ≤ value_of s weight seed u))
                 (λ u n. (omega arith, omega arith)) (each (onto ts m) (walks_over s a))
                 (bound-over s weight seed m O.planned (least_at w) O.lower ts O.turned a r.arc (bound_here w c) (omega (arith, O.sum, r.weighs)));
-            value = rw (found_none w (past c o) refl) tt;
-            done = λ b. absurd (true≢false b);
-            fresh = λ b. refl;
-            taken = λ l. absurd (omega arith);
+            value = λ v e. cc;
+            done = λ e. cc;
+            taken = λ v e. cc;
           };
         }
 
     pub step_past : Ready w c → Step under w c w (past c o)
-    unfolding reach pick
+    unfolding reach
     step_past R =
         record {
           went = went-past;
@@ -97,7 +94,8 @@ module _ (under : ℕ) (w : List ℕ) (c : Cursor) (h : c.place < get_or w (firs
       let z : c.place + 1 ≡ suc c.place = add-one c.place in
       let y : suc c.place - 1 ≡ c.place = omega arith in
       let st = starts s weight seed w c O h k in
-      let fd : found w (caught w c) ≡ onto ts m (a ∷ []) ∷ [] = found-one w (caught w c) (omega arith) ∙ rw (z, y) refl in
+      let one : walk_of w (caught w c) ≡ onto ts m (a ∷ []) = rw (z, y) refl in
+      let fd : found w (caught w c) ≡ onto ts m (a ∷ []) ∷ [] = found-one w (caught w c) (bound_here w c) refl ∙ rw one refl in
       let x : weight_in (word_at m c.place) ≡ weight_in (word_here w c) = rw e refl in
       let q : least_at w (leaves s a) ≡ get_or w (leasts_at + from_here w c) 0 = rw (← r.from, e) refl in
       let b : least_at w (leaves s a) ≡ seed (leaves s a) = O.lower.start (leaves s a) (rw r.from at r.from-in) st in
@@ -124,15 +122,14 @@ module _ (under : ℕ) (w : List ℕ) (c : Cursor) (h : c.place < get_or w (firs
           cut = [];
           is = rw (fd, z) (rest-start s m ts c.pin c.place (inside s weight seed w c O h) st);
           out = tt;
-          value = rw fd ((val, g), tt);
-          done = λ b n. absurd (omega arith);
-          fresh = λ b. absurd (false≢true b);
-          taken = λ l. omega (arith, O.placed.low);
+          value = λ v q. let b : bound_here w c ≡ v = cc in rw one (sym b ∙ val, rw b at g);
+          done = λ q. cc;
+          taken = λ v q. omega (arith, O.placed.low);
         };
       }
 
   pub step-caught : Ready w c → Step under w c w (caught w c)
-  unfolding reach pick
+  unfolding reach
   step-caught R = record { went = went-caught; less = λ b. rw b (omega arith) }
 
 -- ---- any other arc leads deeper
@@ -188,15 +185,14 @@ module _ (under : ℕ) (w : List ℕ) (c : Cursor) (h : c.place < get_or w (firs
           cut = [];
           is = rw (found_none v (deeper w c) refl, pl, same, first) (rw f at (rest-deeper s weight seed m O.planned ts x c.pin c.place (inside s weight seed w c O h) i j r.from r.from-in st));
           out = tt;
-          value = rw (found_none v (deeper w c) refl) tt;
-          done = λ b. absurd (true≢false b);
-          fresh = λ b. refl;
-          taken = λ l. absurd (omega arith);
+          value = λ n q. cc;
+          done = λ q. cc;
+          taken = λ n q. cc;
         };
       }
 
   pub step-deeper : Ready w c → Step under w c (turned w c) (deeper w c)
-  unfolding reach pick
+  unfolding reach
   step-deeper R =
       record {
         went = went-deeper;

@@ -1,7 +1,6 @@
 -- `walker::least_into` meets its contract.
 -- Assumes nothing.
-use Prim.Native.Nat.{◌+◌}
-use native.Mathlib.Omega.{arith}
+use Rattle.std.proofs.Common.{◌+◌, arith}
 use Rattle.area.specs.Area.{arcs_at}
 use Rattle.walker.specs.Laws.Leasts.{so-none, so-small, so-more, so-all}
 use Rattle.walker.proofs.least_into.Goals as goal
@@ -15,7 +14,7 @@ overflow_add-work c =
 
 pub loop-i-preserved : goal.loop-i-preserved
 loop-i-preserved c =
-    so-more _ _ _ _ _ _ _ c.loop-i.invariant c.loop-i-test.true c.requires c.from_in-from.ensures c.weight_in.ensures _ c.lesser-least.ensures.0 c.lesser-least.ensures.1
+    so-more _ _ _ _ _ _ _ c.loop-i.invariant c.loop-i-test.true c.requires c.from_in-from.ensures c.weight_in.ensures _ (omega arith) (omega arith)
 
 pub returns : goal.returns
 returns c = so-all _ _ _ _ _ c.loop-i.invariant c.loop-i-test.false

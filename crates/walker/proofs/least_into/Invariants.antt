@@ -1,10 +1,6 @@
 -- `walker::least_into` meets its contract.
-use Prim.Native.Nat.{◌-◌}
 use Rattle.walker.specs.Laws.Leasts.{So}
 use Rattle.walker.proofs.least_into.Given as goal
 
 abbrev pub invariant-loop-i : goal.invariant-loop-i
 invariant-loop-i l = So l.work l.v l.end l.i l.least
-
-abbrev pub decreases-loop-i : goal.decreases-loop-i
-decreases-loop-i l = l.end - l.i

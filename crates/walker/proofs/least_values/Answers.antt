@@ -1,17 +1,16 @@
 -- `walker::least_values` meets its contract.
 -- Assumes nothing.
-use native.Mathlib.Omega.{arith}
 use Rattle.walker.specs.Laws.Leasts.{into-asks, leasts-next, leasts-all}
 use Rattle.walker.proofs.least_values.Goals as goal
 
-pub least_at-least-requires : goal.least_at-least-requires
-least_at-least-requires c =
-    into-asks _ _ _ _ c.requires c.loop-v.invariant.0 c.loop-v-test.true
+pub least_at-requires : goal.least_at-requires
+least_at-requires c =
+    into-asks _ _ _ _ c.requires c.loop-v.invariant c.loop-v-test.true
 
 pub loop-v-preserved : goal.loop-v-preserved
 loop-v-preserved c =
-    (leasts-next _ _ _ _ _ c.requires c.loop-v.invariant.0 c.loop-v-test.true c.least_at-least.ensures, omega arith)
+    leasts-next _ _ _ _ _ c.requires c.loop-v.invariant c.loop-v-test.true c.least_at.ensures
 
 pub returns : goal.returns
 returns c =
-    leasts-all _ _ _ _ c.loop-v-test.false c.loop-v.invariant.0
+    leasts-all _ _ _ _ c.loop-v-test.false c.loop-v.invariant

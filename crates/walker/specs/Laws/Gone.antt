@@ -1,20 +1,21 @@
 -- Steps one after another.
 -- Assumes nothing.
-use Rattle.std.specs.Prelude.{◌≡◌, refl, true, List, [], ◌++◌, ℕ, ◌+◌, ◌≤◌, ◌<◌, length, get_or}
-use Rattle.std.proofs.Common.{sym, ◌∙◌, true≢false, append_assoc, arith}
+use Rattle.std.specs.Prelude.{◌≡◌, refl, List, [], ◌++◌, ℕ, ◌+◌, ◌≤◌, ◌<◌, length, get_or}
+use Rattle.std.proofs.Common.{sym, ◌∙◌, append_assoc, arith}
 use Rattle.lists.proofs.Laws.Member.{all_app, all_map}
 use Rattle.timing.specs.Structure.{Structure, pins}
 use Rattle.timing.specs.Value.{value_of}
-use Rattle.area.specs.Area.{none, plan, first_at, firsts_at, turns_end, turns_at}
+use Rattle.area.specs.Area.{plan, first_at, firsts_at, turns_end, turns_at}
 use Rattle.area.specs.Laws.Kept.{kept-none, kept-join}
 use Rattle.area.specs.Laws.Plan.{first-at}
 use Rattle.walker.specs.Rest.{turns, came}
 use Rattle.walker.specs.Cursors.{Planned, Lower, least_at, begin_at, On, Ready, coming, found, Gone}
 use Rattle.walker.specs.Laws.Steps.{cursor, found_none}
 use Rattle.walker.specs.declared.Cursor.{Cursor}
+use Rattle.walker.specs.declared.State.TheVariants.{Going}
 
 abbrev pub afresh : Cursor → Cursor
-afresh c = cursor c.depth c.pin c.place c.sum none true c.out
+afresh c = cursor c.depth c.pin c.place c.sum Going c.out
 
 pub gone-none : (under : ℕ) (w : List ℕ) (c : Cursor) → Gone under w c w (afresh c)
 unfolding coming
@@ -27,17 +28,16 @@ gone-none under w c s weight seed O =
         cut = [];
         is = rw (found_none w (afresh c) refl) refl;
         out = tt;
-        value = rw (found_none w (afresh c) refl) tt;
-        done = λ b n. absurd (true≢false b);
-        fresh = λ b. refl;
-        taken = λ l. absurd (omega arith);
+        value = λ v e. cc;
+        done = λ e. cc;
+        taken = λ v e. cc;
       };
     }
 
 pub ready-gone : (under : ℕ) (w₀ w : List ℕ) (c₀ c : Cursor) → Ready w₀ c₀ → Gone under w₀ c₀ w c → Ready w c
 ready-gone under w₀ w c₀ c R G = record { of = R.of; weight = R.weight; seed = R.seed; on = (G R.of R.weight R.seed R.on).on }
 
-pub gone-more : (under : ℕ) (u v w : List ℕ) (a b c : Cursor) → b.more ≡ true → Gone under u a v b → Gone under v b w c → Gone under u a w c
+pub gone-more : (under : ℕ) (u v w : List ℕ) (a b c : Cursor) → b.state ≡ Going → Gone under u a v b → Gone under v b w c → Gone under u a w c
 gone-more under u v w a b c e G H s weight seed O =
     let g = G s weight seed O in
     let h = H s weight seed g.on in
@@ -49,14 +49,13 @@ gone-more under u v w a b c e G H s weight seed O =
       falls = omega (arith, g.falls, h.falls);
       passed = record {
         cut = P.cut ++ Q.cut;
-        is = P.is ∙ rw (found_none v b (P.fresh e), Q.is) (sym (append_assoc P.cut Q.cut (found w c ++ coming s w c)));
+        is = P.is ∙ rw (found_none v b e, Q.is) (sym (append_assoc P.cut Q.cut (found w c ++ coming s w c)));
         out = all_app (λ u. (under ≤ value_of s weight seed u) × (c.out ≤ value_of s weight seed u)) P.cut Q.cut
             (all_map (λ u. (under ≤ value_of s weight seed u) × (b.out ≤ value_of s weight seed u)) (λ u. (under ≤ value_of s weight seed u) × (c.out ≤ value_of s weight seed u))
             (λ u n. (n.0, omega (arith, h.falls, n.1))) P.cut P.out)
             Q.out;
         value = Q.value;
         done = Q.done;
-        fresh = Q.fresh;
         taken = Q.taken;
       };
     }

@@ -1,16 +1,14 @@
 -- The steps of the cursor, over the numbers as the code reads them. Those over an arc are in proofs/Laws, since they rest on the order in which the arcs are taken.
 -- Assumes nothing.
-use Rattle.std.specs.Prelude.{◌≡◌, Bool, true, false, length, set}
+use Rattle.std.specs.Prelude.{◌≡◌, true, false, length, set}
 use Rattle.std.proofs.Math.Path.{refl, ap}
-use Rattle.std.proofs.Common.{ap₂, true≢false, lt-ltb, le-ltb, get_or-set_same, get_or-set_other}
-use Rattle.std.proofs.lemmas.Bool.{false≢true}
+use Rattle.std.proofs.Common.{ap₂, get_or-set_same, get_or-set_other}
 use mathlib.Core.List.{List, [], ◌∷◌}
 use Prim.Native.Nat.{ℕ, zero, suc, ◌+◌, ◌-◌, ◌*◌, ◌≤◌, ◌<◌}
 use Rattle.std.proofs.Math.Numerals.{add-one}
 use native.Mathlib.Omega.{arith}
 use Rattle.std.proofs.Math.ListN.{get_or, length-set}
 use Rattle.std.proofs.lemmas.List.{take-set-le}
-use Rattle.lists.specs.Choice.{pick}
 use Rattle.lists.proofs.Laws.Cases.{by-test}
 use Rattle.timing.specs.Structure.{Structure, pins, leaves, enters}
 use Rattle.timing.specs.Paths.{is_start}
@@ -22,9 +20,11 @@ use Rattle.walker.specs.Cursors.{Planned, Lower, least_at, Turned, On, Ready, co
 use Rattle.walker.specs.Laws.Rest.{Read, read, rest_back, rest-none}
 use Rattle.walker.specs.Laws.Size.{size_back}
 use Rattle.walker.specs.declared.Cursor.{Cursor}
+use Rattle.walker.specs.declared.State.{State}
+use Rattle.walker.specs.declared.State.TheVariants.{Going, Found, Ended}
 
-abbrev pub cursor : ℕ → ℕ → ℕ → ℕ → ℕ → Bool → ℕ → Cursor
-cursor d v p n x b o = record { depth = d; pin = v; place = p; sum = n; value = x; more = b; out = o }
+abbrev pub cursor : ℕ → ℕ → ℕ → ℕ → State → ℕ → Cursor
+cursor d v p n x o = record { depth = d; pin = v; place = p; sum = n; state = x; out = o }
 
 -- ---- turns in the work area
 
@@ -62,17 +62,17 @@ lower-turn s weight seed m w d x P L =
 
 -- ---- a cursor that found nothing, and one that did
 
-pub found_none : (w : List ℕ) (c : Cursor) → c.value ≡ none → found w c ≡ []
-unfolding found pick
+pub found_none : (w : List ℕ) (c : Cursor) → c.state ≡ Going → found w c ≡ []
+unfolding found
 found_none w c e = rw e refl
 
-pub found-not : (w : List ℕ) (c : Cursor) → none ≤ c.value → found w c ≡ []
-unfolding found pick
-found-not w c h = rw (le-ltb c.value none h) refl
+pub found-not : (w : List ℕ) (c : Cursor) → c.state ≡ Ended → found w c ≡ []
+unfolding found
+found-not w c e = rw e refl
 
-pub found-one : (w : List ℕ) (c : Cursor) → c.value < none → found w c ≡ walk_of w c ∷ []
-unfolding found pick
-found-one w c h = rw (lt-ltb c.value none h) refl
+pub found-one : (w : List ℕ) (c : Cursor) (v : ℕ) → c.state ≡ Found v → found w c ≡ walk_of w c ∷ []
+unfolding found
+found-one w c v e = rw e refl
 
 -- ---- what the code reads at the cursor
 
@@ -152,23 +152,23 @@ turned w c = set w (turns_at + c.depth) (turn c.pin c.place)
 
 -- past the arc; with a walk found; deeper; back; at the end
 abbrev pub past : Cursor → ℕ → Cursor
-past c o = cursor c.depth c.pin (c.place + 1) c.sum none true o
+past c o = cursor c.depth c.pin (c.place + 1) c.sum Going o
 
 abbrev pub caught : List ℕ → Cursor → Cursor
-caught w c = cursor c.depth c.pin (c.place + 1) c.sum (bound_here w c) false c.out
+caught w c = cursor c.depth c.pin (c.place + 1) c.sum (Found (bound_here w c)) c.out
 
 abbrev pub deeper : List ℕ → Cursor → Cursor
-deeper w c = cursor (c.depth + 1) (from_here w c) (get_or (turned w c) (firsts_at + from_here w c) 0) (c.sum + weight_in (word_here w c)) none true c.out
+deeper w c = cursor (c.depth + 1) (from_here w c) (get_or (turned w c) (firsts_at + from_here w c) 0) (c.sum + weight_in (word_here w c)) Going c.out
 
 abbrev pub last_turn : List ℕ → Cursor → ℕ
 last_turn w c = get_or w (turns_at + (c.depth - 1)) 0
 
 abbrev pub back : List ℕ → Cursor → Cursor
 back w c =
-    cursor (c.depth - 1) (pin_in (last_turn w c)) (place_in (last_turn w c) + 1) (c.sum - weight_in (get_or w (arcs_at + place_in (last_turn w c)) 0)) none true c.out
+    cursor (c.depth - 1) (pin_in (last_turn w c)) (place_in (last_turn w c) + 1) (c.sum - weight_in (get_or w (arcs_at + place_in (last_turn w c)) 0)) Going c.out
 
 abbrev pub ended : Cursor → Cursor
-ended c = cursor c.depth c.pin c.place c.sum none false c.out
+ended c = cursor c.depth c.pin c.place c.sum Ended c.out
 
 -- ---- no arc is left: back to the turn before
 
@@ -210,15 +210,14 @@ module _ (under : ℕ) (w : List ℕ) (c : Cursor) (h : get_or w (firsts_at + c.
           cut = [];
           is = rw (found_none w (back w c) refl, z, turns-last w c k) (rest_back s m ts x c.pin c.place (rw (end-at s weight seed w c O) h));
           out = tt;
-          value = rw (found_none w (back w c) refl) tt;
-          done = λ b. absurd (true≢false b);
-          fresh = λ b. refl;
-          taken = λ l. absurd (omega arith);
+          value = λ v e. cc;
+          done = λ e. cc;
+          taken = λ v e. cc;
         };
       }
 
   pub step_back : Ready w c → Step under w c w (back w c)
-  unfolding reach pick
+  unfolding reach
   step_back R =
       record {
         went = went_back;
@@ -249,7 +248,7 @@ last_fits s weight seed w c O k =
 -- ---- nothing is left
 
 pub step-ended : (under : ℕ) (w : List ℕ) (c : Cursor) → get_or w (firsts_at + c.pin + 1) 0 ≤ c.place → c.depth ≡ 0 → Ready w c → Step under w c w (ended c)
-unfolding reach pick
+unfolding reach
 step-ended under w c h k R = record { went = went; less = λ b. rw b (omega arith) }
   where
     none_left : (s : Structure) (weight seed : ℕ → ℕ) → On s weight seed w c → coming s w c ≡ []
@@ -263,12 +262,11 @@ step-ended under w c h k R = record { went = went; less = λ b. rw b (omega arit
           falls = omega arith;
           passed = record {
             cut = [];
-            is = rw (found_none w (ended c) refl) refl;
+            is = rw (found-not w (ended c) refl) refl;
             out = tt;
-            value = rw (found_none w (ended c) refl) tt;
-            done = λ b n. none_left s weight seed O;
-            fresh = λ b. absurd (false≢true b);
-            taken = λ l. absurd (omega arith);
+            value = λ v e. cc;
+            done = λ e. none_left s weight seed O;
+            taken = λ v e. cc;
           };
         }
 
