@@ -18,10 +18,13 @@ use Rattle.timing.proofs.Laws.Common.{only-in}
 use Rattle.timing.proofs.Laws.Columns.{pins-is, arcs-is, enters_is}
 use Rattle.timing.proofs.Laws.Accepted.{accepted}
 use Rattle.area.specs.Area.{Kept, arrivals_at, clocks_at, parents_at, depths_at, drivers_at, turns_at}
-use Rattle.clocks.specs.Clocked.{Ready, ClockPin, Parented, ClockedTo, Clocked, driver_for}
-use Rattle.clocks.specs.Turn.{Next, Arrives}
+use Rattle.clocks.specs.Clocked.{Ready, ClockPin, Parented, ClockedTo, driver_for}
+use Rattle.std.specs.Option.{unwrap_or}
+use Rattle.area.specs.Area as area
+use Rattle.clocks.specs.declared.Clocking.{Clocking}
+use Rattle.clocks.specs.Turn.{Arrives}
 use Rattle.clocks.specs.Small.{few-pins, arc-place}
-use Rattle.area.specs.Laws.Kept.{kept-none, kept_set}
+use Rattle.area.specs.Laws.Kept.{kept_set}
 
 -- ---- the numbers of a checked table
 
@@ -34,7 +37,6 @@ module _ (t : Table) (h : table_fault t ≡ none) where
 -- the arcs below a are passed: each that comes into a B or a K stands at its place
 pub record Passing (t : Table) (a : ℕ) (w₀ w : List ℕ) : Type 0 where
   pub ready : Ready t w₀
-  pub most : a ≤ arc_count t
   pub parent : (b : ℕ) → b < a → (kind (structure t) (enters (structure t) b) ≡ B) ⊎ (kind (structure t) (enters (structure t) b) ≡ K)
       → get_or w (parents_at + enters (structure t) b) 0 ≡ b
   pub kept : Kept parents_at depths_at w₀ w
@@ -50,7 +52,6 @@ module _ (t : Table) (a : ℕ) (w₀ w : List ℕ) (s : Passing t a w₀ w) wher
       let inside : to < 256 = omega (arith, e, to_in t h a l, few-pins t h) in
       record {
         ready = s.ready;
-        most = omega arith;
         parent = λ b g k. elim (ℕ_discrete b a) [
           | yes q ↦
               ap (λ (p : ℕ). get_or (set w (parents_at + to) v) (parents_at + p) 0) (ap (enters (structure t)) q ∙ enters_is t a l ∙ sym e)
@@ -69,7 +70,7 @@ module _ (t : Table) (a : ℕ) (w₀ w : List ℕ) (s : Passing t a w₀ w) wher
           → enters (structure t) b ≡ enters (structure t) a → b ≡ a
       other b g k z =
           let ok = (accepted t s.ready.checked).sound in
-          let bl : b < arc_count t = omega (arith, s.most) in
+          let bl : b < arc_count t = omega arith in
           let kb = only-in (structure t) ok b (arc-place t s.ready.checked b bl) k in
           let ka = only-in (structure t) ok a (arc-place t s.ready.checked a l) (rw z at k) in
           head b a (into (structure t) (enters (structure t) a)) (rw z at kb) ka
@@ -82,20 +83,9 @@ module _ (t : Table) (a : ℕ) (w₀ w : List ℕ) (s : Passing t a w₀ w) wher
 -- the pins below p are done; parents, and what stands outside the clock side's part, are as they were
 pub record Going (t : Table) (p : ℕ) (w₀ w : List ℕ) : Type 0 where
   pub ready : Ready t w₀
-  pub most : p ≤ pin_count t
   pub parents : Parented t w
   pub so_far : ClockedTo t p w
   pub kept : Kept clocks_at turns_at w₀ w
-
-pub going-none : (t : Table) (w : List ℕ) → Ready t w → Parented t w → Going t 0 w w
-going-none t w r h =
-    record {
-      ready = r;
-      most = omega arith;
-      parents = h;
-      so_far = record { arrival = λ e p l k. absurd (omega arith); depth = λ p l k. absurd (omega arith); driver = λ p l. absurd (omega arith) };
-      kept = kept-none _ _ w;
-    }
 
 -- what four stores leave: each number at its place, any other place as it was
 record Laid (w v : List ℕ) (i j k m x y z u : ℕ) : Type 0 where
@@ -130,10 +120,19 @@ module _ (t : Table) (p : ℕ) (w₀ w : List ℕ) (s : Going t p w₀ w) (l : p
   room : work_length ≤ length w
   room = omega (arith, s.kept.long, s.ready.room)
 
-  pub going_next : Next t p w
-  going_next = record { ready = record { checked = s.ready.checked; room = room }; parents = s.parents; so_far = s.so_far; inside = l }
+  module _ (c : Clocking) (a : Arrives t p c) where
+    abbrev e : ℕ
+    e = c.early
 
-  module _ (e f d u : ℕ) (a : Arrives t p e f d u) where
+    abbrev f : ℕ
+    f = c.late
+
+    abbrev d : ℕ
+    d = c.depth
+
+    abbrev u : ℕ
+    u = unwrap_or c.driver area.none
+
     -- one store, two, three, four
     abbrev one : List ℕ
     one = set w (arrivals_at early + p) e
@@ -159,7 +158,6 @@ module _ (t : Table) (p : ℕ) (w₀ w : List ℕ) (s : Going t p w₀ w) (l : p
     going_step =
         record {
           ready = s.ready;
-          most = omega arith;
           parents = record {
             parent = λ b g k.
                 let m : enters (structure t) b < pin_count t = rw (pins-is t) at ((accepted t s.ready.checked).sound.to_in b g) in
@@ -206,8 +204,3 @@ module _ (t : Table) (p : ℕ) (w₀ w : List ℕ) (s : Going t p w₀ w) (l : p
               aside (drivers_at + q) (λ y. omega (arith, few)) (λ y. omega (arith, few)) (λ y. omega (arith, few)) (λ y. z (omega arith))
               ∙ s.so_far.driver q (omega arith)
         ]
-
-pub going_end : (t : Table) (p : ℕ) (w₀ w : List ℕ) → Going t p w₀ w → pin_count t ≤ p → Clocked t w
-going_end t p w₀ w s l =
-    let e : p ≡ pin_count t = omega (arith, s.most) in
-    record { ready = record { checked = s.ready.checked; room = omega (arith, s.kept.long, s.ready.room) }; parents = s.parents; pins = rw e at s.so_far }

@@ -73,7 +73,6 @@ module _ (t : Table) (h : table_fault t ≡ none) (m : Mode) (c p : ℕ) (l : p 
 pub record Handing (t : Table) (c p : ℕ) (w₀ w : List ℕ) : Type 0 where
   pub clocked : Clocked t w₀
   pub clock : ClockPin t c
-  pub most : p ≤ pin_count t
   pub done : (q : ℕ) → q < p → ClockPin t q → get_or w (credits_at + q) 0 ≡ pin_credit (structure t) (times t) (common (structure t) q c)
   pub ahead : (q : ℕ) → p ≤ q → q < pin_count t → get_or w (credits_at + q) 0 ≡ route_credit t c q
   pub seeds : (m : Mode) → Based m t w₀ → Seeded m t c p w
@@ -84,7 +83,6 @@ handing-none t c w k h m =
     record {
       clocked = k;
       clock = h;
-      most = omega arith;
       done = λ q l g. absurd (omega arith);
       ahead = λ q l g. m.credit q g;
       seeds = λ n b. record { seed = λ q l. absurd (omega arith) };
@@ -176,7 +174,6 @@ module _ (t : Table) (c p : ℕ) (w₀ w : List ℕ) (s : Handing t c p w₀ w) 
       record {
         clocked = s.clocked;
         clock = s.clock;
-        most = omega arith;
         done = λ q g k. elim (ℕ_discrete q p) [
           | yes z ↦ rw z (credit (rw z at k))
           | no z ↦ credits q k.inside z ∙ s.done q (omega arith) k

@@ -4,5 +4,6 @@ mod Filling
 mod Meeting
 mod Basing
 mod Seeding
+mod Words
 mod Routing
 mod Handing

@@ -19,7 +19,7 @@ use Rattle.timing.proofs.Laws.Accepted.{accepted}
 use Rattle.area.specs.Area.{arrivals_at}
 use Rattle.clocks.specs.Clocked.{Clocked}
 use Rattle.clocks.specs.Small.{few-pins, arrival-most}
-use Rattle.clocks.specs.Known.{test-clock, test-data}
+use Rattle.clocks.specs.Known.{test-clock}
 
 -- ---- the mode: 0 is setup, any other hold
 
@@ -68,13 +68,6 @@ module _ (t : Table) (w : List ℕ) (k : Clocked t w) (j : ℕ) (l : j < test_co
       let h = k.ready.checked in
       let p = test-clock t h j l in
       rw (z, k.pins.arrival e (test_clock t j) p.inside p) (arrival-most t h e (test_clock t j) p.inside)
-
-  pub data-few : (q : ℕ) → q ≡ test_data t j → q < 256
-  data-few q z = omega (arith, z, test-data t k.ready.checked j l, few-pins t k.ready.checked)
-
-  pub setup-most : test_setup t j ≤ 1000000
-  unfolding times
-  setup-most = (accepted t k.ready.checked).ranged.setup-most j (rw (tests-is t) l)
 
   pub hold-most : test_hold t j ≤ 1000000
   unfolding times

@@ -1,9 +1,8 @@
 -- One turn of the pass over the pins: a step of the tree, and the kind that is read. Assumes nothing.
 use mathlib.Core.Path.{◌≡◌, sym, ◌∙◌}
-use mathlib.Core.Logic.{◌⊎◌, inl, inr, ⊎_elim, ◌≢◌}
+use mathlib.Core.Logic.{◌⊎◌, ⊎_elim, ◌≢◌}
 use mathlib.Core.List.{List}
 use Prim.Native.Nat.{ℕ, ◌+◌, ◌≤◌, ◌<◌}
-use native.Mathlib.Decide.{ℕ_discrete}
 use native.Mathlib.Omega.{arith}
 use lib.ListN.{length, get_or}
 use Rattle.timing.specs.Kinds.{R, B, K}
@@ -14,7 +13,9 @@ use Rattle.timing.proofs.Laws.Columns.{kind-is}
 use Rattle.area.specs.Area.{arrivals_at, parents_at, depths_at}
 use Rattle.area.specs.Area as area
 use Rattle.clocks.specs.Clocked.{ClockPin, driver_for}
-use Rattle.clocks.specs.Turn.{NextDriven}
+use Rattle.std.specs.Prelude.{None}
+use Rattle.clocks.specs.declared.Clocking.{Clocking}
+use Rattle.clocks.specs.Turn.{NextDriven, Arrives}
 use Rattle.clocks.specs.Small.{few-pins, arrival-most, depth-most}
 use Rattle.clocks.specs.Tree.{Driven, driver-some, driver-none, driven}
 
@@ -54,13 +55,6 @@ kind-cases t p c = rw (← kind-is t p c.inside) c.clock
 
 -- ---- the kind that is read
 
--- the kinds up to K but R
-pub up-to-K : (k : ℕ) → k ≢ R → k ≤ K → (k ≡ B) ⊎ (k ≡ K)
-up-to-K k n l = elim (ℕ_discrete k B) [ yes e ↦ inl e | no e ↦ inr (two k n e l) ]
-  where
-    two : (k : ℕ) → k ≢ 0 → k ≢ 1 → k ≤ 2 → k ≡ 2
-    two k a b l = omega arith
-
 -- no clock pin is behind K
 pub past-K : (t : Table) (p : ℕ) → K < pin_kind t p → ClockPin t p → ⊥
 past-K t p l c = ⊎_elim (λ e. omega arith) (⊎_elim (λ e. omega arith) (λ e. omega arith)) (kind-cases t p c)
@@ -68,3 +62,13 @@ past-K t p l c = ⊎_elim (λ e. omega arith) (⊎_elim (λ e. omega arith) (λ 
 -- nothing drives R, or a pin of the data side
 pub not-driven : (t : Table) (p : ℕ) → p < pin_count t → pin_kind t p ≢ B → pin_kind t p ≢ K → area.none ≡ driver_for t p
 not-driven t p l b k = sym (driver-none t p (λ e. b (sym (kind-is t p l) ∙ e)) (λ e. k (sym (kind-is t p l) ∙ e)))
+
+-- a pin of the data side has no clocking
+pub not-clocked : (t : Table) (p : ℕ) (c : Clocking) → p < pin_count t → K < pin_kind t p → c.driver ≡ None → Arrives t p c
+not-clocked t p x l k n =
+    record {
+      is-early = λ c. absurd (past-K t p k c);
+      is-late = λ c. absurd (past-K t p k c);
+      is-depth = λ c. absurd (past-K t p k c);
+      is-driver = rw n (not-driven t p l (λ e. omega arith) (λ e. omega arith));
+    }

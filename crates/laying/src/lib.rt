@@ -2,9 +2,7 @@
 // of one. The total, and a bound for each test that costs one pass for all of them.
 #![tactic(auto)]
 
-ghost use Rattle.std.specs.Prelude.{◌≡◌, ◌≤◌, ◌<◌, length};
-ghost use Rattle.std.proofs.Math.IntN.{sub_ℕ};
-ghost use Rattle.lists.specs.Parts.{capped};
+ghost use Rattle.std.specs.Prelude.{◌≡◌, ◌<◌, length};
 ghost use Rattle.lists.specs.Laws.Count.{count_to};
 ghost use Rattle.timing.specs.Limits.{most_total};
 ghost use Rattle.timing.specs.Table.{test_count};
@@ -14,9 +12,12 @@ ghost use Rattle.clocks.specs.Clocked.{Clocked, Tested};
 ghost use Rattle.clocks.specs.Clocked as clocked;
 ghost use Rattle.area.specs.Area.{Kept, seeds_at, clocks_at};
 ghost use Rattle.laying.specs.Standing.{Prepared, Sown, Lay};
-ghost use Rattle.laying.specs.Bounds.{count_at, record_of, Above, Shared, AllBounds};
+ghost use Rattle.laying.specs.Bounds.{count_at, record_of, slack_of, Above, Shared, AllBounds};
 
 use timing::{Candidate, Design};
+
+// Above every slack.
+pub const ABOVE: i64 = 1099511627776;
 
 // The sorted arcs and the clock side of a table, for all tests.
 pub fn prepare(table: &[u32], mode: u32, work: &mut [u64])
@@ -28,12 +29,14 @@ pub fn prepare(table: &[u32], mode: u32, work: &mut [u64])
     clocks::bases(table, mode, work);
 }
 
+// Stays, here and below: where the code does not read the mode, the clauses do; `total`, which docs/DECISIONS.md names, takes it as a number.
+
 // The seeds of test j.
 fn seed(table: &[u32], mode: u32, work: &mut [u64], j: usize)
     requires { Prepared table.now mode work.old × (j < test_count table.now) }
     ensures { Sown table.now mode j work.new × Kept seeds_at clocks_at work.old work.new }
 {
-    clocks::seeds(table, work, tables::of_test(table, 0, j));
+    clocks::seeds(table, work, tables::test_clock(table, j));
 }
 
 // The seeds and the least values of test j.
@@ -47,30 +50,15 @@ pub fn lay(table: &[u32], mode: u32, work: &mut [u64], j: usize)
 
 // ---- the total
 
-// The sum, or the most that a total tells if it is more.
-fn add_capped(x: u64, y: u64) -> u64
-    requires { x ≤ most_total }
-    ensures { result ≡ capped most_total x y }
-{
-    if Design::TOTAL - x < y {
-        Design::TOTAL
-    } else {
-        x + y
-    }
-}
-
 // The counts of the tests' data pins, added up.
 fn add_counts(table: &[u32], work: &[u64]) -> u64
     requires { clocked.Ready table.now work.now }
     ensures { result ≡ count_to most_total (count_at table.now work.now) (test_count table.now) }
 {
-    let n = tables::test_count(table);
     let mut sum = 0;
-    let mut test = 0;
-    while test < n {
-        let data = tables::of_test(table, 1, test);
-        sum = add_capped(sum, work[area::COUNTS + data]);
-        test += 1;
+    for test in 0..tables::test_count(table) {
+        let data = tables::test_data(table, test);
+        sum = lists::add_capped(Design::TOTAL, sum, work[area::COUNTS + data]);
     }
     sum
 }
@@ -90,22 +78,17 @@ pub fn total(table: &[u32], mode: u32, work: &mut [u64]) -> u64
 
 // ---- a value as a slack
 
-// a minus b.
-fn difference(a: u64, b: u64) -> i64
-    requires { (a < 4611686018427387904) × (b < 4611686018427387904) }
-    ensures { result ≡ sub_ℕ a b }
+// The value of a walk of test j as a slack: raised and lowered by what the test alone decides.
+pub fn slack_of(table: &[u32], mode: u32, work: &[u64], j: usize, value: u64) -> i64
+    requires { Tested table.now work.now j × (value < 1073741824) }
+    ensures { result ≡ slack_of table.now mode j value }
 {
-    (a as i64) - (b as i64)
+    let raise = clocks::raise_of(table, mode, work, j);
+    let lower = clocks::lower_of(table, mode, work, j);
+    (value + raise) as i64 - lower as i64
 }
 
-// A number, for a record.
-fn word(x: usize) -> u64
-    ensures { result ≡ x }
-{
-    x as u64
-}
-
-// The record of test j for a value and a serial: its slack is the value, raised and lowered by what the test alone decides.
+// The record of test j for a value and a serial.
 pub fn record_of(
     table: &[u32],
     mode: u32,
@@ -117,13 +100,10 @@ pub fn record_of(
     requires { Tested table.now work.now j × (value < 1073741824) }
     ensures { result ≡ record_of table.now mode j value i }
 {
-    let raise = clocks::raise_of(table, mode, work, j);
-    let lower = clocks::lower_of(table, mode, work, j);
-    let slack = difference(value + raise, lower);
     Candidate {
-        slack: slack,
-        test: word(j),
-        serial: word(i),
+        slack: slack_of(table, mode, work, j, value),
+        test: j as u64,
+        serial: i as u64,
     }
 }
 
@@ -134,13 +114,10 @@ fn shared_clock(table: &[u32], work: &[u64]) -> usize
     requires { Clocked table.now work.now × (0 < test_count table.now) }
     ensures { Above table.now (test_count table.now) result }
 {
-    let n = tables::test_count(table);
-    let mut clock = tables::of_test(table, 0, 0);
-    let mut next = 1;
-    while next < n {
-        let other = tables::of_test(table, 0, next);
+    let mut clock = tables::test_clock(table, 0);
+    for test in 1..tables::test_count(table) {
+        let other = tables::test_clock(table, test);
         clock = clocks::common_pin(table, work, clock, other);
-        next += 1;
     }
     clock
 }
@@ -166,11 +143,10 @@ pub fn bounds_of(table: &[u32], mode: u32, work: &mut [u64]) -> [u32; Design::TE
         return bounds;
     }
     lay_shared(table, mode, work);
-    let mut test = 0;
-    while test < n {
-        let data = tables::of_test(table, 1, test);
+    // Stays: by index. By `array::from_fn` what its closure asks and what is returned stayed open.
+    for test in 0..n {
+        let data = tables::test_data(table, test);
         bounds[test] = work[area::LEASTS + data] as u32;
-        test += 1;
     }
     bounds
 }

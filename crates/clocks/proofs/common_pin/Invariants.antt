@@ -5,8 +5,8 @@ use Rattle.area.specs.Area.{depths_at}
 use Rattle.clocks.proofs.Meeting.{Climbing}
 use Rattle.clocks.proofs.common_pin.Given as goal
 
-abbrev pub invariant-loop-a : goal.invariant-loop-a
-invariant-loop-a l = Climbing l.table l.work l.p l.q l.a l.b
+abbrev pub invariant-loop-p : goal.invariant-loop-p
+invariant-loop-p l = Climbing l.table l.work l.initial.p l.initial.q l.p l.q
 
-abbrev pub decreases-loop-a : goal.decreases-loop-a
-decreases-loop-a l = get_or l.work (depths_at + l.a) 0 + get_or l.work (depths_at + l.b) 0
+abbrev pub decreases-loop-p : goal.decreases-loop-p
+decreases-loop-p l = get_or l.work (depths_at + l.p) 0 + get_or l.work (depths_at + l.q) 0

@@ -1,30 +1,16 @@
 -- `clocks::lay_seed` meets its contract, by whether a pin drives p. Assumes nothing.
-use mathlib.Core.Path.{ap, ◌∙◌}
-use Prim.Native.Nat.{◌<◌}
-use native.Mathlib.Omega.{arith}
-use Rattle.area.specs.Area.{none}
+use mathlib.Core.Path.{refl, sym, ap, ◌∙◌}
 use Rattle.clocks.specs.Route.{driver_in, credit_down}
+use Rattle.area.specs.Laws.Given.{given-is, given-not}
 use Rattle.clocks.proofs.Handing.{turn-driven, turn-free}
 use Rattle.clocks.proofs.lay_seed.Goals as goal
 
-pub credit_down-credit-requires : goal.credit_down-credit-requires
-credit_down-credit-requires c =
-    let drives : driver_in c.args.work.now c.args.p < none = omega (arith, c.if-driver-lt-NONE.true, c.at-driver.ensures) in
-    (omega (arith, c.requires.room), omega (arith, c.requires.room, c.requires.below drives, c.count.ensures, c.at-driver.ensures))
+pub returns-in-Some : goal.returns-in-Some
+returns-in-Some c =
+    let d = given-is (driver_in c.args.work.now c.args.p) c.in-Some.driver (sym c.in-Some.ensures) in
+    turn-driven c.args.work.now c.args.p (driver_in c.args.work.now c.args.p) refl _ _ _ d.1
+    (c.credit_down-credit.ensures ∙ ap (credit_down c.args.work.now c.args.p) (sym d.0)) refl c.seed_with.ensures
 
-pub seed_with-requires : goal.seed_with-requires
-seed_with-requires c =
-    let drives : driver_in c.args.work.now c.args.p < none = omega (arith, c.if-driver-lt-NONE.true, c.at-driver.ensures) in
-    rw (c.credit_down-credit.ensures, c.count.ensures, c.at-driver.ensures) (c.requires.light drives)
-
-pub returns-then-driver-lt-NONE : goal.returns-then-driver-lt-NONE
-returns-then-driver-lt-NONE c =
-    rw (c.put-then-driver-lt-NONE.ensures, c.put.ensures)
-    (turn-driven c.args.work.now c.args.p _ c.at-driver.ensures _ _ _ c.if-driver-lt-NONE.true
-    (c.credit_down-credit.ensures ∙ ap (credit_down c.args.work.now c.args.p) c.count.ensures)
-    c.at-base.ensures c.seed_with.ensures)
-
-pub returns-else-driver-lt-NONE : goal.returns-else-driver-lt-NONE
-returns-else-driver-lt-NONE c =
-    rw c.put-else-driver-lt-NONE.ensures
-    (turn-free c.args.work.now c.args.p _ c.at-driver.ensures _ c.if-driver-lt-NONE.false c.at-base.ensures)
+pub returns-in_default : goal.returns-in_default
+returns-in_default c =
+    turn-free c.args.work.now c.args.p (driver_in c.args.work.now c.args.p) refl _ (given-not _ (sym c.in_default.ensures)) refl

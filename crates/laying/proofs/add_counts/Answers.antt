@@ -2,42 +2,19 @@
 -- Assumes nothing.
 use mathlib.Core.Path.{◌≡◌, sym, ◌∙◌}
 use native.Mathlib.Omega.{arith}
-use Rattle.lists.proofs.Laws.Count.{count_to-none, count_to-more, count_to-most}
+use Rattle.lists.proofs.Laws.Count.{count_to-none, count_to-more}
 use Rattle.timing.specs.Limits.{most_total}
-use Rattle.timing.specs.Table.{test_count, test_data}
+use Rattle.timing.specs.Table.{test_data}
 use Rattle.laying.proofs.Turns.{low-data}
 use Rattle.laying.proofs.add_counts.Goals as goal
 
 pub loop-test-init : goal.loop-test-init
-loop-test-init c = record { stop = c.test_count-n.ensures; at = omega arith; so_far = sym (count_to-none most_total _) }
-
-pub overflow_add-data : goal.overflow_add-data
-overflow_add-data c =
-    omega (arith, low-data _ c.requires.checked _ _ _ c.loop-test.invariant.stop c.loop-test-test.true c.of_test-data.ensures)
-
-pub offset_bounds-work-data : goal.offset_bounds-work-data
-offset_bounds-work-data c =
-    omega (arith, low-data _ c.requires.checked _ _ _ c.loop-test.invariant.stop c.loop-test-test.true c.of_test-data.ensures)
+loop-test-init c = sym (count_to-none most_total _)
 
 pub bounds-work-data : goal.bounds-work-data
-bounds-work-data c =
-    omega (arith, low-data _ c.requires.checked _ _ _ c.loop-test.invariant.stop c.loop-test-test.true c.of_test-data.ensures, c.requires.room)
-
-pub add_capped-sum-requires : goal.add_capped-sum-requires
-add_capped-sum-requires c = rw c.loop-test.invariant.so_far (count_to-most most_total _ _)
+bounds-work-data c = omega (arith, low-data _ c.requires.checked c.loop-test.test (omega arith) _ c.test_data-data.ensures, c.requires.room)
 
 pub loop-test-preserved : goal.loop-test-preserved
 loop-test-preserved c =
-    let i = c.loop-test.invariant in
-    let e : c.of_test-data.result ≡ test_data c.args.table.now c.loop-test.test = c.of_test-data.ensures in
-    record {
-      stop = i.stop;
-      at = omega (arith, c.loop-test-test.true);
-      so_far = c.add_capped-sum.ensures ∙ rw (e, i.so_far) (sym (count_to-more most_total _ c.loop-test.test));
-    }
-
-pub returns : goal.returns
-returns c =
-    let i = c.loop-test.invariant in
-    let z : c.loop-test.test ≡ test_count c.args.table.now = omega (arith, i.stop, i.at, c.loop-test-test.false) in
-    rw z at i.so_far
+    let e : c.test_data-data.result ≡ test_data c.args.table.now c.loop-test.test = c.test_data-data.ensures in
+    c.add_capped-sum.ensures ∙ rw (e, c.loop-test.invariant) (sym (count_to-more most_total _ c.loop-test.test))

@@ -9,45 +9,31 @@ use Rattle.timing.proofs.Laws.Accepted.{accepted}
 use Rattle.laying.proofs.Turns.{one_more, low-data}
 use Rattle.laying.proofs.bounds_of.Goals as goal
 
--- with no test each has its bound
-pub returns-then-n-eq0 : goal.returns-then-n-eq0
-returns-then-n-eq0 c =
-    ((λ j k. absurd (omega (arith, c.if-n-eq0.true, c.test_count-n.ensures))), c.requires, search rules)
-
-pub lay_shared-requires : goal.lay_shared-requires
-lay_shared-requires c =
-    (c.requires, omega (arith, c.if-n-eq0.false, c.test_count-n.ensures))
-
 pub loop-test-init : goal.loop-test-init
-loop-test-init c =
-    let h = c.lay_shared.ensures.prepared.clocked.ready.checked in
-    let e = c.test_count-n.ensures in
-    record { stop = e; few = omega (arith, e, (accepted _ h).header.few-tests); at = omega arith; len = search rules; so_far = λ j k. absurd (not-suc-le-zero k) }
-
-pub overflow_add-bounds : goal.overflow_add-bounds
-overflow_add-bounds c =
-    omega (arith, low-data _ c.lay_shared.ensures.prepared.clocked.ready.checked _ _ _ c.loop-test.invariant.stop c.loop-test-test.true c.of_test-data.ensures)
-
-pub offset_bounds-work-data : goal.offset_bounds-work-data
-offset_bounds-work-data c =
-    omega (arith, low-data _ c.lay_shared.ensures.prepared.clocked.ready.checked _ _ _ c.loop-test.invariant.stop c.loop-test-test.true c.of_test-data.ensures)
+loop-test-init c = record { len = search rules; so_far = λ j k. absurd (not-suc-le-zero k) }
 
 pub bounds-work-data : goal.bounds-work-data
 bounds-work-data c =
     let r = c.lay_shared.ensures.prepared.clocked.ready in
-    omega (arith, low-data _ r.checked _ _ _ c.loop-test.invariant.stop c.loop-test-test.true c.of_test-data.ensures, r.room)
+    omega (arith, low-data _ r.checked c.loop-test.test (omega arith) _ c.test_data-data.ensures, r.room)
+
+pub bounds-bounds-test : goal.bounds-bounds-test
+bounds-bounds-test c =
+    let i = c.loop-test.invariant in
+    omega (arith, (accepted _ c.lay_shared.ensures.prepared.clocked.ready.checked).header.few-tests)
 
 pub overflow_cast-bounds : goal.overflow_cast-bounds
 overflow_cast-bounds c =
-    let inside : c.loop-test.test < test_count c.args.table.now = omega (arith, c.loop-test-test.true, c.loop-test.invariant.stop) in
-    rw c.of_test-data.ensures (omega (arith, (c.lay_shared.ensures.bounds _ inside).small))
+    let inside : c.loop-test.test < test_count c.args.table.now = omega arith in
+    rw c.test_data-data.ensures (omega (arith, (c.lay_shared.ensures.bounds _ inside).small))
 
 pub loop-test-preserved : goal.loop-test-preserved
 loop-test-preserved c =
-    let inside : c.loop-test.test < test_count c.args.table.now = omega (arith, c.loop-test-test.true, c.loop-test.invariant.stop) in
-    one_more _ _ _ _ _ _ c.loop-test.invariant c.loop-test-test.true (rw c.of_test-data.ensures (c.lay_shared.ensures.bounds _ inside))
+    let inside : c.loop-test.test < test_count c.args.table.now = omega arith in
+    let few : c.loop-test.test < 64 = omega (arith, (accepted _ c.lay_shared.ensures.prepared.clocked.ready.checked).header.few-tests) in
+    one_more _ _ _ _ _ c.loop-test.invariant few (rw c.test_data-data.ensures (c.lay_shared.ensures.bounds _ inside))
 
 pub returns : goal.returns
 returns c =
     let i = c.loop-test.invariant in
-    ((λ j k. i.so_far j (omega (arith, i.stop, i.at, c.loop-test-test.false))), c.lay_shared.ensures.prepared, i.len)
+    ((λ j k. i.so_far j (omega arith)), c.lay_shared.ensures.prepared, i.len)

@@ -5,14 +5,6 @@ use Rattle.timing.specs.Table.{pin_count}
 use Rattle.laying.specs.Laws.Bounded.{shared-ready, shared-bounds}
 use Rattle.laying.proofs.lay_shared.Goals as goal
 
-pub shared_clock-clock-requires : goal.shared_clock-clock-requires
-shared_clock-clock-requires c = let p = c.requires in (p.0.clocked, p.1)
-
-pub seeds-requires : goal.seeds-requires
-seeds-requires c =
-    let p = c.requires in
-    (p.0.clocked, c.shared_clock-clock.ensures.pin)
-
 pub least_values-requires : goal.least_values-requires
 least_values-requires c =
     let p = c.requires in

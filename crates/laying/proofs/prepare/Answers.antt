@@ -1,16 +1,12 @@
 -- `laying::prepare` meets its contract: the clock side is written behind the sorted arcs.
 -- Assumes nothing.
 use mathlib.Core.Path.{◌∙◌}
-use native.Mathlib.Omega.{arith}
 use Rattle.arcs.specs.Laws.Kept.{accepted-whole}
 use Rattle.laying.specs.Laws.Prepared.{clocks-prepared}
 use Rattle.laying.proofs.prepare.Goals as goal
 
 pub sort-requires-clause-whole : goal.sort-requires-clause-whole
 sort-requires-clause-whole c = accepted-whole _ c.requires.checked
-
-pub sort-requires-clause-clocks_at_in_bounds : goal.sort-requires-clause-clocks_at_in_bounds
-sort-requires-clause-clocks_at_in_bounds c = omega (arith, c.requires.room)
 
 pub returns : goal.returns
 returns c =

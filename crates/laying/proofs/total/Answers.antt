@@ -10,10 +10,6 @@ use Rattle.laying.proofs.total.Goals as goal
 pub returns-then-test_count-eq0 : goal.returns-then-test_count-eq0
 returns-then-test_count-eq0 c = (total-none _ (sym c.test_count.ensures ∙ c.if-test_count-eq0.true), c.requires)
 
-pub seed-requires : goal.seed-requires
-seed-requires c =
-    (c.requires, omega (arith, c.test_count.ensures, c.if-test_count-eq0.false))
-
 pub counts-requires : goal.counts-requires
 counts-requires c = rw c.pin_count.ensures (let k = c.seed.ensures.0 in laid-ready _ _ _ _ k.prepared k.laid _ (omega arith))
 

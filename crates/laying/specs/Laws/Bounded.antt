@@ -3,28 +3,24 @@
 -- each test a bound. Its own least value is a bound too, and a closer one.
 -- Assumes nothing.
 use Rattle.std.specs.Prelude.{◌≡◌, ℕ, ◌+◌, ◌≤◌, ◌<◌, get_or}
-use Rattle.std.proofs.Common.{sym, subst, inl, inr, arith}
+use Rattle.std.proofs.Common.{sym, subst, arith}
 use mathlib.Core.List.{List, []}
 use Rattle.std.proofs.Math.Option.{none}
 use Rattle.std.proofs.Math.Decide.{dec_lt}
-use Rattle.lists.specs.Parts.{each}
 use Rattle.lists.specs.Laws.Member.{In}
-use Rattle.lists.proofs.Laws.Member.{in-each, into-each, in_right}
 use Rattle.lists.proofs.Laws.Pieces.{in_place}
 use Rattle.timing.specs.Table.{Table, pin_count, test_count, test_clock, test_data}
-use Rattle.timing.specs.Structure.{Structure, pins, tests, leaves, clock_pin, data_pin, structure, times}
-use Rattle.timing.specs.Clock.{climb, route}
+use Rattle.timing.specs.Structure.{pins, tests, clock_pin, data_pin, structure, times}
 use Rattle.timing.specs.Paths.{walks}
 use Rattle.timing.specs.Value.{value, value_of, seed_of}
 use Rattle.timing.specs.Rows.{mode_of}
 use Rattle.timing.specs.Check.{table_fault}
-use Rattle.timing.specs.Laws.Sound.{Sound}
-use Rattle.timing.proofs.Laws.Routes.{climb-split, common-on, self-route}
+use Rattle.timing.proofs.Laws.Routes.{common-on, self-route}
 use Rattle.timing.proofs.Laws.Accepted.{accepted, accepted-level}
 use Rattle.timing.proofs.Laws.Columns.{pins-is, tests-is, clock-is, data_is}
 use Rattle.timing.proofs.Laws.Counted.{walks_some}
 use Rattle.timing.proofs.Laws.Walked.{walks-sound}
-use Rattle.timing.proofs.Laws.Least.{value-above}
+use Rattle.timing.proofs.Laws.Least.{route-up, value-above}
 use Rattle.area.specs.Area.{Kept, plan, seeds_at, clocks_at}
 use Rattle.clocks.specs.Clocked.{ClockPin, Common, Seeded}
 use Rattle.clocks.specs.Known.{test-clock}
@@ -40,15 +36,6 @@ use Rattle.laying.specs.Laws.Laid.{planned-of, laid_of, prepared-beside}
 use Rattle.laying.specs.Laws.Totals.{data-other}
 
 -- ---- a pin on all clock routes
-
-route-up : (s : Structure) (ok : Sound s) (z y p : ℕ) → p < pins s → In y (route s p) → In z (route s y) → In z (route s p)
-unfolding route
-route-up s ok z y p l h (inl e) = subst (λ (x : ℕ). In x (route s p)) (sym e) h
-route-up s ok z y p l h (inr i) =
-    let q = in-each (leaves s) z (climb s y) i in
-    let f = climb-split s ok y p l h in
-    let on : In q.0 (climb s p) = subst (λ (l : List ℕ). In q.0 l) (sym f.meets) (in_right q.0 f.front (climb s y) q.1) in
-    inr (subst (λ (x : ℕ). In x (each (leaves s) (climb s p))) (sym q.2) (into-each (leaves s) q.0 (climb s p) on))
 
 module _ (t : Table) (h : table_fault t ≡ none) where
   -- the clock pin of the first test is on its own route
