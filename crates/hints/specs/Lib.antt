@@ -1,0 +1,2 @@
+-- What the search's contracts name.
+pub mod Steps
