@@ -6,6 +6,7 @@ use Rattle.timing.specs.Paths.{Path, path}
 use Rattle.timing.specs.Ranked.{greater, list_after}
 use Rattle.timing.specs.declared.Candidate.{Candidate}
 use Rattle.walker.specs.Slots.{Stands}
+use Rattle.winners.specs.declared.Best.{Best}
 use Rattle.winners.specs.Held.{nobody, kept}
 
 abbrev pub no_path : Path
@@ -36,11 +37,10 @@ pub record Place (list : List Candidate) (n : ℕ) (c : Candidate) (r : ℕ) : T
   pub before : r < n → greater (get_or list r nobody) c ≡ true
 
 -- a record entered, and its slot with it
-pub record Entered (k : ℕ) (c : Candidate) (list : List Candidate) (count serial : ℕ) (slots : List ℕ) (list' : List Candidate) (count' serial' : ℕ)
-    (slots' : List ℕ) : Type 0 where
-  pub list-is : list' ≡ list_after list (kept k count) c
-  pub count-is : count' ≡ kept k count + 1
-  pub later : serial ≤ serial'
+pub record Entered (k : ℕ) (c : Candidate) (best best' : Best) : Type 0 where
+  pub list-is : best'.list ≡ list_after best.list (kept k best.count) c
+  pub count-is : best'.count ≡ kept k best.count + 1
+  pub later : best.serial ≤ best'.serial
   pub place : ℕ
-  pub at : Place list (kept k count) c place
-  pub moved : Moved slots place (kept k count) slots'
+  pub at : Place best.list (kept k best.count) c place
+  pub moved : Moved best.slots place (kept k best.count) best'.slots

@@ -12,7 +12,7 @@ use Rattle.winners.proofs.walk_test.Given as goal
 -- the work area at the loop's head is that at the start, but for turns; so the list at the start is told of there
 abbrev pub invariant-loop-c : goal.invariant-loop-c
 invariant-loop-c l =
-    Going l.table l.mode l.j l.k l.hint l.initial.work l.initial.b.list l.initial.b.count l.initial.b.serial l.initial.b.slots l.work l.b.list l.b.count l.b.serial l.b.slots l.c
+    Going l.table l.mode l.j l.k l.hint l.initial.work l.initial.best l.work l.best l.c
     × Still l.initial.work l.work
 
 abbrev pub decreases-loop-c : goal.decreases-loop-c

@@ -20,6 +20,7 @@ use Rattle.timing.specs.Paths.{Path}
 use Rattle.timing.specs.Ranked.{greater, new_count, list_after}
 use Rattle.timing.specs.declared.Candidate.{Candidate}
 use Rattle.ranked.specs.Laws.{entered-front, after-length}
+use Rattle.winners.specs.declared.Best.{Best}
 use Rattle.winners.specs.Held.{Told, Holds, kept, Sized}
 
 -- ---- any lists
@@ -62,46 +63,46 @@ slack-decides x c h k =
     (λ g. rw (e, f, le-ltb c.test x.test h, g) refl)
     (λ g. rw (e, f, le-ltb c.test x.test h, g, le-ltb c.serial x.serial k) refl)))
 
-module _ (key : Path → ℤ) (k test serial : ℕ) (list : List Candidate) (count : ℕ) (l : List Path) where
+module _ (key : Path → ℤ) (k test : ℕ) (best : Best) (l : List Path) where
   -- the first k, by those that stay
-  pub tops : (d p : Path) → Sized k list count → Holds key k test serial list count l → (count ≡ k → Less (key p) (key (last d l)))
-      → take k (enter (by key) p l) ≡ enter (by key) p (take (kept k count) l)
-  tops d p S H low = elim (dec_lt count k) [
+  pub tops : (d p : Path) → Sized k best → Holds key k test best.serial best.list best.count l → (best.count ≡ k → Less (key p) (key (last d l)))
+      → take k (enter (by key) p l) ≡ enter (by key) p (take (kept k best.count) l)
+  tops d p S H low = elim (dec_lt best.count k) [
     | yes h ↦
-        let z : kept k count ≡ count = omega arith in
+        let z : kept k best.count ≡ best.count = omega arith in
         take_all k (enter (by key) p l) (omega (arith, length-enter (by key) p l, H.counted))
-        ∙ ap (enter (by key) p) (sym (rw z (take_all count l (omega (arith, H.counted)))))
+        ∙ ap (enter (by key) p) (sym (rw z (take_all best.count l (omega (arith, H.counted)))))
     | no h ↦
-        let e : count ≡ k = omega (arith, S.few) in
-        let z : kept k count ≡ k - 1 = omega arith in
+        let e : best.count ≡ k = omega (arith, S.few) in
+        let z : kept k best.count ≡ k - 1 = omega arith in
         let y : k ≡ suc (k - 1) = omega (arith, S.some) in
         rw z (ap (λ (n : ℕ). take n (enter (by key) p l)) y ∙ full-enter key d p (k - 1) l (omega (arith, H.counted)) (low e))
   ]
 
   -- a record enters behind the records that stay
-  pub holds-enter : (d : Path) (c : Candidate) (p : Path) → Sized k list count → Holds key k test serial list count l → Told key test serial c p
-      → c.test ≡ test → c.serial ≡ serial → (count ≡ k → Less (key p) (key (last d l)))
-      → Holds key k test serial (list_after list (kept k count) c) (kept k count + 1) (take k (enter (by key) p l))
+  pub holds-enter : (d : Path) (c : Candidate) (p : Path) → Sized k best → Holds key k test best.serial best.list best.count l → Told key test best.serial c p
+      → c.test ≡ test → c.serial ≡ best.serial → (best.count ≡ k → Less (key p) (key (last d l)))
+      → Holds key k test best.serial (list_after best.list (kept k best.count) c) (kept k best.count + 1) (take k (enter (by key) p l))
   holds-enter d c p S H T ct cs low =
-      let q = kept k count in
+      let q = kept k best.count in
       let ql : q < 16 = omega (arith, S.few, S.some, S.most) in
-      let D = take q list in
+      let D = take q best.list in
       let M = take q l in
       let len = S.places in
-      let D-is : D ≡ take q (take count list) = sym (take-take q count list (omega arith)) in
-      let rel : Both (Told key test serial) D M = rw D-is (both-take (Told key test serial) q (take count list) l H.both) in
-      let new : Both (Told key test serial) (enter greater c D) (enter (by key) p M) =
-      both-enter (Told key test serial) greater (by key) c p D M T
+      let D-is : D ≡ take q (take best.count best.list) = sym (take-take q best.count best.list (omega arith)) in
+      let rel : Both (Told key test best.serial) D M = rw D-is (both-take (Told key test best.serial) q (take best.count best.list) l H.both) in
+      let new : Both (Told key test best.serial) (enter greater c D) (enter (by key) p M) =
+      both-enter (Told key test best.serial) greater (by key) c p D M T
       (λ x y r. slack-decides x c (omega (arith, r.tests)) (omega (arith, r.serials)) ∙ ap₂ lt_z T.slack r.slack) rel in
-      let Dn : length D ≡ q = length-take q list ∙ omega arith in
+      let Dn : length D ≡ q = length-take q best.list ∙ omega arith in
       let En : length (enter greater c D) ≡ suc q = length-enter greater c D ∙ ap suc Dn in
-      let front : take (q + 1) (list_after list q c) ≡ enter greater c D =
-      let z : new_count q (length list) ≡ q + 1 = omega arith in
-      (rw z at (entered-front list q c (omega arith))) ∙ take_all (length list) (enter greater c D) (omega arith) in
+      let front : take (q + 1) (list_after best.list q c) ≡ enter greater c D =
+      let z : new_count q (length best.list) ≡ q + 1 = omega arith in
+      (rw z at (entered-front best.list q c (omega arith))) ∙ take_all (length best.list) (enter greater c D) (omega arith) in
       let top : take k (enter (by key) p l) ≡ enter (by key) p M = tops d p S H low in
       record {
-        places = after-length list q c ∙ len;
-        counted = omega (arith, ap length top, both-length (Told key test serial) (enter greater c D) (enter (by key) p M) new);
+        places = after-length best.list q c ∙ len;
+        counted = omega (arith, ap length top, both-length (Told key test best.serial) (enter greater c D) (enter (by key) p M) new);
         few = omega (arith, length-take k (enter (by key) p l));
         both = rw (front, top) new;
         sorted = pairs-take (λ x y. Within 0 (key x) (key y)) k (enter (by key) p l) (sorted-enter key p l H.sorted);

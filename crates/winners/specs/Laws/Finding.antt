@@ -37,6 +37,9 @@ use Rattle.lists.specs.Laws.Under.{below, Out}
 use Rattle.lists.proofs.Laws.Under.{top-cut, top-is}
 use Rattle.lists.specs.Laws.Falling.{kept, Near, Falls}
 use Rattle.lists.proofs.Laws.Falling.{top-falling}
+use Rattle.winners.specs.declared.Best.{Best}
+use Rattle.winners.specs.declared.Found.{Found}
+use Rattle.winners.specs.declared.Hints.{Hints}
 use Rattle.winners.specs.Held.{slack_in, Told, Limit}
 use Rattle.winners.specs.Stored.{no_path, Stored}
 use Rattle.winners.specs.Walking.{Added}
@@ -46,12 +49,12 @@ use Rattle.timing.specs.Value.{value_of, raise, lower}
 use Rattle.lists.specs.Choice.{pick}
 use Rattle.lists.proofs.Laws.Cases.{by-test}
 use Rattle.lists.specs.Laws.Integer.{Within, Less}
-use Rattle.lists.proofs.Laws.Integer.{less-within, not-less-within, sub_within, le-within}
+use Rattle.lists.proofs.Laws.Integer.{sub_within, le-within}
 use Rattle.timing.proofs.Laws.Bounds.{slack-bounds}
 use Rattle.std.proofs.Math.Dec.{ltb}
 use Rattle.std.specs.Int.Signed.{lt_z}
 use borrow.Author.Tests.{lt-ltb, ltb-true}
-use Rattle.winners.specs.Finding.{hint_at, first_to, Finding, Searching, Tries, Finished, Round, Won, Nothing, Numbered}
+use Rattle.winners.specs.Finding.{hint_at, OneApart, first_to, Finding, Searching, Tries, Finished, Round, Won, Nothing, Numbered}
 
 -- the plan stands between the slots and the least values
 plan-same : (w v : List ℕ) → length v ≡ length w → ((i : ℕ) → 4096 ≤ i → i < counts_at → get_or v i 0 ≡ get_or w i 0) → plan v ≡ plan w
@@ -98,30 +101,29 @@ module _ (t : Table) (mode k : ℕ) (hint : ℕ → ℤ) where
   later test serial (x ∷ l) (y ∷ m) b =
       (record { slack = b.0.slack; of = b.0.of; tests = omega (arith, b.0.tests); serials = b.0.serials }, later test serial l m b.1)
 
-  pub finding-none : (w : List ℕ) (list : List Candidate) (count serial : ℕ) (slots : List ℕ) → 0 < k → k ≤ 16 → Prepared t mode w → Nothing list count slots
-      → Finding t mode k hint 0 w list count serial slots
-  finding-none w list count serial slots a b P N =
+  pub finding-none : (w : List ℕ) (best : Best) → 0 < k → k ≤ 16 → Prepared t mode w → Nothing best → Finding t mode k hint 0 w best
+  finding-none w best a b P N =
       record {
         prepared = P;
         sized = record { places = N.places; few = omega (arith, N.none); some = a; most = b };
         shelf = record {
-          places = N.long;
-          inside = λ i h. rw (N.each i h) h;
-          apart = λ i q h g e. sym (N.each i h) ∙ e ∙ N.each q g;
+          places = N.numbered.long;
+          inside = λ i h. rw (N.numbered.each i h) h;
+          apart = λ i q h g e. sym (N.numbered.each i h) ∙ e ∙ N.numbered.each q g;
         };
         holds = rw first-none (record { places = N.places; counted = N.none; few = omega arith; both = rw N.none tt; sorted = tt });
         stored = rw first-none (λ i h. absurd (omega arith));
       }
 
-  pub finding-more : (j : ℕ) (w u v : List ℕ) (list : List Candidate) (count serial : ℕ) (slots : List ℕ) (list' : List Candidate) (count' serial' : ℕ) (slots' : List ℕ) (out : ℕ)
-      → Finding t mode k hint j w list count serial slots → Lay t mode j w u → Added t mode j k (hint j) u list count serial slots v list' count' serial' slots' out → Still u v
-      → Finding t mode k hint (j + 1) v list' count' serial' slots'
-  finding-more j w u v list count serial slots list' count' serial' slots' out F L A K =
+  pub finding-more : (j : ℕ) (w u v : List ℕ) (best best' : Best) (out : ℕ)
+      → Finding t mode k hint j w best → Lay t mode j w u → Added t mode j k (hint j) u best v best' out → Still u v
+      → Finding t mode k hint (j + 1) v best'
+  finding-more j w u v best best' out F L A K =
       let H = F.holds in
       let P = L.walks.sown.prepared in
       let e : plan v ≡ plan u = plan-same u v K.long (λ i a b. K.same i a (omega arith)) in
-      let D : Stored u slots (first_to t mode k hint j) =
-      λ i h. moved (get_or slots i 0) (get_or (first_to t mode k hint j) i no_path).walk (F.shelf.inside i (omega (arith, H.few, F.sized.most))) (F.stored i h) in
+      let D : Stored u best.slots (first_to t mode k hint j) =
+      λ i h. moved (get_or best.slots i 0) (get_or (first_to t mode k hint j) i no_path).walk (F.shelf.inside i (omega (arith, H.few, F.sized.most))) (F.stored i h) in
       let R = A.adds (first_to t mode k hint j) H D in
       let M = R.0 in
       record {
@@ -133,7 +135,7 @@ module _ (t : Table) (mode k : ℕ) (hint : ℕ → ℤ) where
               places = M.places;
               counted = M.counted;
               few = M.few;
-              both = later j serial' (take count' list') (rank_top (by (slack_in t mode)) k (first_to t mode k hint j) (those (below (slack_in t mode) (hint j)) (test_paths (structure t) j))) M.both;
+              both = later j best'.serial (take best'.count best'.list) (rank_top (by (slack_in t mode)) k (first_to t mode k hint j) (those (below (slack_in t mode) (hint j)) (test_paths (structure t) j))) M.both;
               sorted = M.sorted;
             });
         stored = rw (← first_more j) R.1;
@@ -154,20 +156,20 @@ unfoldable pub all_to : Table → ℕ → List Path
 all_to t n = gather (test_paths (structure t)) (parts.below n)
 
 -- the hints fall along them
-module _ (t : Table) (mode : ℕ) (high low : ℤ) (last : ℕ) (near : Within 0 low high × Within 1 high low) where
+module _ (t : Table) (mode : ℕ) (hints : Hints) (near : OneApart hints) where
   abbrev pub hint_of : Path → ℤ
-  hint_of p = hint_at high low last p.test
+  hint_of p = hint_at hints p.test
 
-  hint-near : (p : Path) → Near hint_of low p
+  hint-near : (p : Path) → Near hint_of hints.low p
   unfolding hint_at pick
-  hint-near p = by-test (ltb last p.test) (λ e. rw e (omega arith, omega arith)) (λ e. rw e near)
+  hint-near p = by-test (ltb hints.last p.test) (λ e. rw e (omega arith, omega arith)) (λ e. rw e near)
 
   hint-falls : (p q : Path) → p.test ≤ q.test → Falls hint_of p q
   unfolding hint_at pick
   hint-falls p q h =
-      by-test (ltb last p.test)
-      (λ e. let f : ltb last q.test ≡ true = lt-ltb last q.test (omega (arith, ltb-true last p.test e)) in rw (e, f) (omega arith))
-      (λ e. by-test (ltb last q.test) (λ f. rw (e, f) near.0) (λ f. rw (e, f) (omega arith)))
+      by-test (ltb hints.last p.test)
+      (λ e. let f : ltb hints.last q.test ≡ true = lt-ltb hints.last q.test (omega (arith, ltb-true hints.last p.test e)) in rw (e, f) (omega arith))
+      (λ e. by-test (ltb hints.last q.test) (λ f. rw (e, f) near.0) (λ f. rw (e, f) (omega arith)))
 
   of_test : (n : ℕ) (p : Path) → In p (test_paths (structure t) n) → p.test ≡ n
   unfolding test_paths
@@ -182,14 +184,14 @@ module _ (t : Table) (mode : ℕ) (high low : ℤ) (last : ℕ) (near : Within 0
       (λ i j h p q a b. hint-falls p q (omega (arith, of_test i p a, of_test j q b))) (parts.below n) (pairs_below n))
 
   -- where k paths are found, or all are below their hints, the list holds the first k of all paths
-  pub first_found : (k : ℕ) → (length (first_to t mode k (hint_at high low last) (test_count t)) ≡ k)
+  pub first_found : (k : ℕ) → (length (first_to t mode k (hint_at hints) (test_count t)) ≡ k)
       ⊎ All (λ p. kept (slack_in t mode) hint_of p ≡ true) (all_to t (test_count t))
-      → first_to t mode k (hint_at high low last) (test_count t) ≡ first_paths (mode_of mode) (structure t) (times t) k
+      → first_to t mode k (hint_at hints) (test_count t) ≡ first_paths (mode_of mode) (structure t) (times t) k
   unfolding first_to first_paths ranked paths all_to
   first_found k (inl e) =
       rw (← tests-is t)
-      (top-falling (slack_in t mode) hint_of low k (all_to t (tests (structure t))) (falls (tests (structure t)))
-      (of-all (Near hint_of low) (all_to t (tests (structure t))) (λ p i. hint-near p))
+      (top-falling (slack_in t mode) hint_of hints.low k (all_to t (tests (structure t))) (falls (tests (structure t)))
+      (of-all (Near hint_of hints.low) (all_to t (tests (structure t))) (λ p i. hint-near p))
       (rw (← tests-is t) at e))
   first_found k (inr a) =
       rw (← tests-is t)
@@ -215,33 +217,24 @@ slack-of t mode j value v h =
     let x = times t in
     sub_within 0 (value + raise m s x j) (lower m level s x j) (v + raise m s x j) (lower m level s x j) (omega arith)
 
--- the lesser of two is at most both
-lesser : (a b c : ℤ) → c ≡ pick (lt_z a b) a b → Within 0 c a × Within 0 c b
-unfolding pick
-lesser a b c e =
-    by-test (lt_z a b) (λ g. let z : c ≡ a = rw g at e in rw z (omega arith, omega (arith, less-within a b g)))
-    (λ g. let z : c ≡ b = rw g at e in rw z (omega (arith, not-less-within a b g), omega arith))
-
 -- ---- what was passed over
 
 module _ (t : Table) (mode k : ℕ) (hint : ℕ → ℤ) where
-  pub searching-none : (w : List ℕ) (list : List Candidate) (count serial : ℕ) (slots : List ℕ) (out : ℤ) → 0 < k → k ≤ 16 → Prepared t mode w → Nothing list count slots
-      → Searching t mode k hint 0 w list count serial slots out
+  pub searching-none : (w : List ℕ) (found : Found) → 0 < k → k ≤ 16 → Prepared t mode w → Nothing found.best → Searching t mode k hint 0 w found
   unfolding gather parts.below
-  searching-none w list count serial slots out a b P N = record { finding = finding-none t mode k hint w list count serial slots a b P N; past = λ p i. absurd i }
+  searching-none w found a b P N = record { finding = finding-none t mode k hint w found.best a b P N; past = λ p i. absurd i }
 
-  pub searching-more : (j : ℕ) (w u v : List ℕ) (list : List Candidate) (count serial : ℕ) (slots : List ℕ) (out : ℤ) (list' : List Candidate) (count' serial' : ℕ) (slots' : List ℕ) (least : ℕ)
-      (slack : ℤ) → Searching t mode k hint j w list count serial slots out → Lay t mode j w u → Added t mode j k (hint j) u list count serial slots v list' count' serial' slots' least → Still u v
+  pub searching-more : (j : ℕ) (w u v : List ℕ) (found : Found) (best' : Best) (least : ℕ) (slack : ℤ)
+      → Searching t mode k hint j w found → Lay t mode j w u → Added t mode j k (hint j) u found.best v best' least → Still u v
       → ((v : ℕ) → v < 1073741824 → least ≤ v → Within 0 slack (slack_of t mode j v))
-      → (out' : ℤ) → out' ≡ pick (lt_z out slack) out slack → Searching t mode k hint (j + 1) v list' count' serial' slots' out'
-  searching-more j w u v list count serial slots out list' count' serial' slots' least slack S L A K f out' e =
+      → (out' : ℤ) → Within 0 out' found.out → Within 0 out' slack → Searching t mode k hint (j + 1) v (record { best = best'; out = out' })
+  searching-more j w u v found best' least slack S L A K f out' old new-out =
       let s = structure t in
-      let lo = lesser out slack out' e in
       record {
-        finding = finding-more t mode k hint j w u v list count serial slots list' count' serial' slots' least S.finding L A K;
+        finding = finding-more t mode k hint j w u v found.best best' least S.finding L A K;
         past = λ p i.
-            ⊎_elim (λ a. ⊎_elim (λ b. inl b) (λ b. inr (omega (arith, lo.0))) (S.past p a))
-            (λ a. new p a lo.1)
+            ⊎_elim (λ a. ⊎_elim (λ b. inl b) (λ b. inr (omega arith)) (S.past p a))
+            (λ a. new p a new-out)
             (in_either p (gather (test_paths s) (parts.below j)) (test_paths s j) (rw (gather-more (test_paths s) j) at i));
       }
     where
@@ -257,25 +250,24 @@ module _ (t : Table) (mode k : ℕ) (hint : ℕ → ℤ) where
           ⊎_elim (λ b. inl (subst (λ (i : ℕ). Less (slack_in t mode p) (hint i)) (sym y) b)) inr g
 
   -- a test that is left out: each of its paths is not below the hint, or not below the last slack of a full list
-  pub searching-skip : (j bound : ℕ) (w : List ℕ) (list : List Candidate) (count serial : ℕ) (slots : List ℕ) (out limit : ℤ) → Tries t mode k hint j bound w list count serial slots out
-      → Limit k (hint j) list count limit → Within 0 limit (slack_of t mode j bound)
-      → (out' : ℤ) → out' ≡ pick (lt_z out (slack_of t mode j bound)) out (slack_of t mode j bound) → Searching t mode k hint (j + 1) w list count serial slots out'
+  pub searching-skip : (j bound : ℕ) (w : List ℕ) (found : Found) (limit : ℤ) → Tries t mode k hint j bound w found
+      → Limit k (hint j) found.best limit → Within 0 limit (slack_of t mode j bound)
+      → (out' : ℤ) → Within 0 out' found.out → Within 0 out' (slack_of t mode j bound) → Searching t mode k hint (j + 1) w (record found { out = out' })
   unfolding test_paths those each rank_top weighing
-  searching-skip j bound w list count serial slots out limit T L g out' e =
+  searching-skip j bound w found limit T L g out' old first =
       let s = structure t in
       let F = T.searching.finding in
       let H = F.holds in
       let l = first_to t mode k hint j in
       let h = F.prepared.clocked.ready.checked in
       let P = test_paths s j in
-      let lo = lesser out (slack_of t mode j bound) out' e in
       let above : (p : Path) → In p P → Within 0 (slack_of t mode j bound) (slack_in t mode p) =
       λ p i.
       let r = in-each (path j) p (walks s (data_pin s j)) i in
       rw (ap (slack_in t mode) r.2 ∙ slack-valued t mode j h T.test r.0 r.1)
       (slack-of t mode j bound (value_of s (weighing t mode) (test_seed t mode j) r.0) (T.bounds.least r.0 r.1)) in
       let out : All (Out (slack_in t mode) (hint j) k l) P =
-      of-all _ P (λ p i. out_of t mode k j serial (hint j) list count l p H F.sized.some (L.over (slack_in t mode p) (omega (arith, above p i)))) in
+      of-all _ P (λ p i. out_of t mode k j (hint j) found.best l p H F.sized.some (L.over (slack_in t mode p) (omega (arith, above p i)))) in
       let z : rank_top (by (slack_in t mode)) k l (those (below (slack_in t mode) (hint j)) P) ≡ l =
       rw (append-nil P) at (top-cut (slack_in t mode) (hint j) k l P [] out) in
       let y : first_to t mode k hint (j + 1) ≡ l = sym (first_more t mode k hint j) ∙ z in
@@ -284,45 +276,45 @@ module _ (t : Table) (mode k : ℕ) (hint : ℕ → ℤ) where
           prepared = F.prepared;
           sized = F.sized;
           shelf = F.shelf;
-          holds = rw y (record { places = H.places; counted = H.counted; few = H.few; both = later t mode k hint j serial (take count list) l H.both; sorted = H.sorted });
+          holds = rw y (record { places = H.places; counted = H.counted; few = H.few; both = later t mode k hint j found.best.serial (take found.best.count found.best.list) l H.both; sorted = H.sorted });
           stored = rw y F.stored;
         };
         past = λ p i.
-            ⊎_elim (λ a. ⊎_elim (λ b. inl b) (λ b. inr (omega (arith, lo.0))) (T.searching.past p a))
-            (λ a. inr (omega (arith, lo.1, above p a)))
+            ⊎_elim (λ a. ⊎_elim (λ b. inl b) (λ b. inr (omega arith)) (T.searching.past p a))
+            (λ a. inr (omega (arith, above p a)))
             (in_either p (gather (test_paths s) (parts.below j)) P (rw (gather-more (test_paths s) j) at i));
       }
 
 -- ---- when it is the answer
 
 -- a full list, or nothing passed over that a slack can be, or hints above every slack: the list holds the first k of all paths
-pub searched : (t : Table) (mode k : ℕ) (high low : ℤ) (last : ℕ) (w : List ℕ) (list : List Candidate) (count serial : ℕ) (slots : List ℕ) (out : ℤ)
-    → Within 0 low high × Within 1 high low → Searching t mode k (hint_at high low last) (test_count t) w list count serial slots out
-    → (count ≡ k) ⊎ (Less (pos 257000000) out ⊎ Less (pos 257000000) low)
-    → first_to t mode k (hint_at high low last) (test_count t) ≡ first_paths (mode_of mode) (structure t) (times t) k
-searched t mode k high low last w list count serial slots out near S (inl e) = first_found t mode high low last near k (inl (sym S.finding.holds.counted ∙ e))
-searched t mode k high low last w list count serial slots out near S (inr o) =
-    first_found t mode high low last near k (inr (of-all _ (all_to t (test_count t)) (λ p i. all-below p i)))
+pub searched : (t : Table) (mode k : ℕ) (hints : Hints) (w : List ℕ) (found : Found)
+    → OneApart hints → Searching t mode k (hint_at hints) (test_count t) w found
+    → (found.best.count ≡ k) ⊎ (Less (pos 257000000) found.out ⊎ Less (pos 257000000) hints.low)
+    → first_to t mode k (hint_at hints) (test_count t) ≡ first_paths (mode_of mode) (structure t) (times t) k
+searched t mode k hints w found near S (inl e) = first_found t mode hints near k (inl (sym S.finding.holds.counted ∙ e))
+searched t mode k hints w found near S (inr o) =
+    first_found t mode hints near k (inr (of-all _ (all_to t (test_count t)) (λ p i. all-below p i)))
   where
-    all-below : (p : Path) → In p (all_to t (test_count t)) → kept (slack_in t mode) (hint_of t mode high low last near) p ≡ true
+    all-below : (p : Path) → In p (all_to t (test_count t)) → kept (slack_in t mode) (hint_of t mode hints near) p ≡ true
     all-below p i = unfold all_to in
         let a = accepted t S.finding.prepared.clocked.ready.checked in
         let q : In p (paths (structure t)) = unfold paths in rw (tests-is t) i in
         let m = le-within (slack_in t mode p) (pos 257000000) (slack-bounds (structure t) a.sound (times t) a.ranged (mode_of mode) p q).not-over in
         ⊎_elim
-        (λ b. ⊎_elim (λ c. less-below (slack_in t mode p) (hint_at high low last p.test) c) (λ c. absurd (omega arith)) (S.past p i))
-        (λ b. less-below (slack_in t mode p) (hint_at high low last p.test) (omega (arith, (hint-near t mode high low last near p).0)))
+        (λ b. ⊎_elim (λ c. less-below (slack_in t mode p) (hint_at hints p.test) c) (λ c. absurd (omega arith)) (S.past p i))
+        (λ b. less-below (slack_in t mode p) (hint_at hints p.test) (omega (arith, (hint-near t mode hints near p).0)))
         o
 
 -- and then the paths are won
-pub won : (t : Table) (mode k rounds : ℕ) (w : List ℕ) (list : List Candidate) (count serial : ℕ) (slots : List ℕ) (out : ℤ)
-    → Round t mode k rounds w list count serial slots out → Finished rounds count k out → Won t mode k w list count slots
-won t mode k rounds w list count serial slots out R f =
+pub won : (t : Table) (mode k rounds : ℕ) (w : List ℕ) (found : Found)
+    → Round t mode k rounds w found → Finished rounds k found → Won t mode k w found.best.list found.best.count found.best.slots
+won t mode k rounds w found R f =
     let F = R.searching.finding in
-    let e = searched t mode k R.high R.low R.last w list count serial slots out R.near R.searching (ends f) in
-    record { prepared = F.prepared; shelf = F.shelf; serial = serial; holds = rw e at F.holds; stored = rw e at F.stored }
+    let e = searched t mode k R.hints w found R.near R.searching (ends f) in
+    record { prepared = F.prepared; shelf = F.shelf; serial = found.best.serial; holds = rw e at F.holds; stored = rw e at F.stored }
   where
-    ends : Finished rounds count k out → (count ≡ k) ⊎ (Less (pos 257000000) out ⊎ Less (pos 257000000) R.low)
+    ends : Finished rounds k found → (found.best.count ≡ k) ⊎ (Less (pos 257000000) found.out ⊎ Less (pos 257000000) R.hints.low)
     ends (inl e) = inr (inr (R.ends e))
     ends (inr (inl h)) = inl (omega (arith, R.searching.finding.sized.few))
     ends (inr (inr h)) = inr (inl h)

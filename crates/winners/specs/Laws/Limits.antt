@@ -1,23 +1,23 @@
 -- What a slack, and what a value must be below to enter.
 -- Assumes nothing.
-use Rattle.std.specs.Prelude.{◌≡◌, List, ℕ, ◌+◌, ◌-◌, ◌≤◌, ◌<◌, ℤ, get_or}
+use Rattle.std.specs.Prelude.{◌≡◌, ℕ, ◌+◌, ◌-◌, ◌≤◌, ◌<◌, ℤ, get_or}
 use Rattle.std.proofs.Common.{inl, inr, arith}
 use Rattle.std.specs.Int.Signed.{lt_z}
 use Rattle.lists.specs.Choice.{pick}
 use Rattle.lists.proofs.Laws.Cases.{by-test}
 use Rattle.lists.specs.Laws.Integer.{up, down}
 use Rattle.lists.proofs.Laws.Integer.{less-within, not-less-within, sub_is}
-use Rattle.timing.specs.declared.Candidate.{Candidate}
+use Rattle.winners.specs.declared.Best.{Best}
 use Rattle.winners.specs.Held.{nobody, Limit, Reach}
 
-pub limit-open : (k : ℕ) (hint : ℤ) (list : List Candidate) (count : ℕ) → count < k → Limit k hint list count hint
-limit-open k hint list count h = record { under = λ z l. (l, λ e. absurd (omega arith)); over = λ z l. inl l }
+pub limit-open : (k : ℕ) (hint : ℤ) (best : Best) → best.count < k → Limit k hint best hint
+limit-open k hint best h = record { under = λ z l. (l, λ e. absurd (omega arith)); over = λ z l. inl l }
 
-pub limit-full : (k : ℕ) (hint : ℤ) (list : List Candidate) (count : ℕ) (r : ℤ) → count ≡ k
-    → r ≡ pick (lt_z (get_or list (k - 1) nobody).slack hint) (get_or list (k - 1) nobody).slack hint → Limit k hint list count r
+pub limit-full : (k : ℕ) (hint : ℤ) (best : Best) (r : ℤ) → best.count ≡ k
+    → r ≡ pick (lt_z (get_or best.list (k - 1) nobody).slack hint) (get_or best.list (k - 1) nobody).slack hint → Limit k hint best r
 unfolding pick
-limit-full k hint list count r h e =
-    let last = (get_or list (k - 1) nobody).slack in
+limit-full k hint best r h e =
+    let last = (get_or best.list (k - 1) nobody).slack in
     by-test (lt_z last hint)
     (λ f.
     let q : r ≡ last = rw f at e in

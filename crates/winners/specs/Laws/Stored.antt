@@ -2,8 +2,12 @@
 -- Assumes nothing.
 use Rattle.std.specs.Prelude.{◌≡◌, ◌⊎◌, Bool, true, false, length, take, set, ℤ}
 use Rattle.std.proofs.Math.Path.{refl}
-use Rattle.std.proofs.Common.{sym, ap, ap₂, ◌∙◌, inl, inr, ⊎_elim, length-take, length-set, get_or-take, get_or-set_same, get_or-set_other}
-use mathlib.Core.List.{List, [], ◌∷◌}
+use borrow.Rule.Slice.PartMut.{mid_of, put_mid, same_len_mid}
+use Rattle.std.specs.List.{RotatedRight}
+use Rattle.std.proofs.Math.ListN.{drop, get_or-append}
+use Rattle.std.proofs.lemmas.List.{get_or-append_right, get_or-drop}
+use Rattle.std.proofs.Common.{sym, ap, ap₂, ◌∙◌, inl, inr, ⊎_elim, length-take, length-drop, length-set, get_or-take, get_or-set_same, get_or-set_other}
+use mathlib.Core.List.{List, [], ◌∷◌, ◌++◌}
 use Prim.Native.Nat.{ℕ, zero, suc, ◌+◌, ◌-◌, ◌*◌, ◌≤◌, ◌<◌}
 use native.Mathlib.Omega.{arith}
 use Rattle.std.proofs.Math.Decide.{ℕ_discrete, dec_lt}
@@ -16,6 +20,7 @@ use Rattle.timing.specs.Paths.{Path}
 use Rattle.timing.specs.Ranked.{greater}
 use Rattle.timing.specs.declared.Candidate.{Candidate}
 use Rattle.walker.specs.Slots.{Stands, Aside}
+use Rattle.winners.specs.declared.Best.{Best}
 use Rattle.winners.specs.Held.{Told, Holds, kept, nobody, Sized}
 use Rattle.winners.specs.Stored.{no_path, Shelf, Stored, Source, Moved, Place}
 use Rattle.winners.specs.Laws.Entered.{slack-decides}
@@ -111,32 +116,32 @@ stands-aside free slot w v u A n S =
     other : (slot < free → ⊥) → free < slot
     other h = elim (ℕ_discrete slot free) [ yes e ↦ absurd (n e) | no e ↦ omega arith ]
 
-module _ (key : Path → ℤ) (k test serial : ℕ) (list : List Candidate) (count : ℕ) (l : List Path) where
+module _ (key : Path → ℤ) (k test : ℕ) (best : Best) (l : List Path) where
   -- the walk of the record that enters stands in the slot at the place behind those that stay
-  pub stored-enter : (c : Candidate) (p : Path) (w v slots r : List ℕ) (at : ℕ) → Sized k list count → Holds key k test serial list count l → Told key test serial c p
-      → c.test ≡ test → c.serial ≡ serial → take k (enter (by key) p l) ≡ enter (by key) p (take (kept k count) l)
-      → Shelf slots → Stored w slots l → Aside (get_or slots (kept k count) 0) w v → Stands v (get_or slots (kept k count) 0) p.walk
-      → Place list (kept k count) c at → Moved slots at (kept k count) r → Stored v r (take k (enter (by key) p l))
-  stored-enter c p w v slots r at S H T ct cs top F D A K P M i h =
-      let q = kept k count in
-      let qc : q ≤ count = omega arith in
+  pub stored-enter : (c : Candidate) (p : Path) (w v r : List ℕ) (at : ℕ) → Sized k best → Holds key k test best.serial best.list best.count l → Told key test best.serial c p
+      → c.test ≡ test → c.serial ≡ best.serial → take k (enter (by key) p l) ≡ enter (by key) p (take (kept k best.count) l)
+      → Shelf best.slots → Stored w best.slots l → Aside (get_or best.slots (kept k best.count) 0) w v → Stands v (get_or best.slots (kept k best.count) 0) p.walk
+      → Place best.list (kept k best.count) c at → Moved best.slots at (kept k best.count) r → Stored v r (take k (enter (by key) p l))
+  stored-enter c p w v r at S H T ct cs top F D A K P M i h =
+      let q = kept k best.count in
+      let qc : q ≤ best.count = omega arith in
       let few : q < 16 = omega (arith, S.few, S.some, S.most) in
-      let R = Told key test serial in
-      let cn = both-length R (take count list) l H.both in
-      let told : (a : ℕ) → a < q → R (get_or list a nobody) (get_or l a no_path) =
-      λ a b. rw (get_or-take count list a nobody (omega arith)) at (both_at R (take count list) l H.both a (omega (arith, H.counted)) nobody no_path) in
-      let decides : (a : ℕ) → a < q → greater (get_or list a nobody) c ≡ by key (get_or (take q l) a no_path) p =
+      let R = Told key test best.serial in
+      let cn = both-length R (take best.count best.list) l H.both in
+      let told : (a : ℕ) → a < q → R (get_or best.list a nobody) (get_or l a no_path) =
+      λ a b. rw (get_or-take best.count best.list a nobody (omega arith)) at (both_at R (take best.count best.list) l H.both a (omega (arith, H.counted)) nobody no_path) in
+      let decides : (a : ℕ) → a < q → greater (get_or best.list a nobody) c ≡ by key (get_or (take q l) a no_path) p =
       λ a b.
       let t = told a b in
-      slack-decides (get_or list a nobody) c (omega (arith, t.tests)) (omega (arith, t.serials)) ∙ ap₂ lt_z T.slack t.slack
+      slack-decides (get_or best.list a nobody) c (omega (arith, t.tests)) (omega (arith, t.serials)) ∙ ap₂ lt_z T.slack t.slack
       ∙ ap (λ (z : Path). lt_z (key p) (key z)) (sym (get_or-take q l a no_path b)) in
       let n : length (take q l) ≡ q = length-take q l ∙ omega (arith, H.counted) in
       let E = enter-place (by key) no_path p (take q l) at i (omega (arith, P.most)) (λ j b. sym (decides j (omega (arith, P.most))) ∙ P.behind j b)
       (λ b. sym (decides at (omega arith)) ∙ P.before (omega arith)) in
       let hi : i < suc q = omega (arith, ap length top, length-enter (by key) p (take q l)) in
-      let kept-stands : (a : ℕ) → a < q → Stands v (get_or slots a 0) (get_or l a no_path).walk =
+      let kept-stands : (a : ℕ) → a < q → Stands v (get_or best.slots a 0) (get_or l a no_path).walk =
       λ a b.
-      stands-aside (get_or slots q 0) (get_or slots a 0) w v (get_or l a no_path).walk A (λ e. let z = F.apart a q (omega arith) few e in omega arith) (D a (omega (arith, H.counted))) in
+      stands-aside (get_or best.slots q 0) (get_or best.slots a 0) w v (get_or l a no_path).walk A (λ e. let z = F.apart a q (omega arith) few e in omega arith) (D a (omega (arith, H.counted))) in
       rw top
       (elim (dec_lt i at) [
         | yes b ↦
@@ -149,6 +154,46 @@ module _ (key : Path → ℤ) (k test serial : ℕ) (list : List Candidate) (cou
               rw (M.from i (i - 1) (omega arith) (inr (inr (inl (g, omega arith, refl)))), E.2 g, get_or-take q l (i - 1) no_path (omega arith)) (kept-stands (i - 1) (omega arith))
         ]
       ])
+
+-- ---- the slots, turned
+
+-- the part from place at to place n, turned by one
+module _ (slots part : List ℕ) (at n : ℕ) (long : length slots ≡ 16) (low : at ≤ n) (high : n < 16) (same : length part ≡ length (mid_of at (n + 1 - at) slots))
+    (turned : RotatedRight (mid_of at (n + 1 - at) slots) part (length (mid_of at (n + 1 - at) slots)) 1) where
+  front : length (take at slots) ≡ at
+  front = length-take at slots ∙ omega arith
+
+  middle : length (mid_of at (n + 1 - at) slots) ≡ n + 1 - at
+  middle = length-take (n + 1 - at) (drop at slots) ∙ omega (arith, length-drop at slots)
+
+  size : length part ≡ n + 1 - at
+  size = same ∙ middle
+
+  in-part : (i : ℕ) → at ≤ i → i ≤ n → get_or (put_mid at (n + 1 - at) slots part) i 0 ≡ get_or part (i - at) 0
+  in-part i a b =
+      get_or-append_right (take at slots) (part ++ drop (n + 1 - at) (drop at slots)) at i 0 front a
+      ∙ get_or-append part (drop (n + 1 - at) (drop at slots)) 0 (i - at) (omega (arith, size))
+
+  in-middle : (i : ℕ) → i < n + 1 - at → get_or (mid_of at (n + 1 - at) slots) i 0 ≡ get_or slots (at + i) 0
+  in-middle i h = get_or-take (n + 1 - at) (drop at slots) i 0 h ∙ get_or-drop at slots i 0
+
+  from-place : (i q : ℕ) → i < 16 → Source at n i q → get_or (put_mid at (n + 1 - at) slots part) i 0 ≡ get_or slots q 0
+  from-place i q h (inl s) =
+      rw s.1 (get_or-append (take at slots) (part ++ drop (n + 1 - at) (drop at slots)) 0 i (omega (arith, front)) ∙ get_or-take at slots i 0 s.0)
+  from-place i q h (inr (inl s)) =
+      in-part i (omega arith) (omega arith) ∙ ap (λ (m : ℕ). get_or part m 0) (omega arith) ∙ turned.0 0 0 (omega arith)
+      ∙ in-middle (length (mid_of at (n + 1 - at) slots) - 1 + 0) (omega (arith, middle)) ∙ ap (λ (m : ℕ). get_or slots m 0) (omega (arith, middle))
+  from-place i q h (inr (inr (inl s))) =
+      in-part i (omega arith) s.1 ∙ turned.1 (i - at) 0 (omega arith) (omega (arith, middle))
+      ∙ in-middle (i - at - 1) (omega arith) ∙ ap (λ (m : ℕ). get_or slots m 0) (omega arith)
+  from-place i q h (inr (inr (inr s))) =
+      get_or-append_right (take at slots) (part ++ drop (n + 1 - at) (drop at slots)) at i 0 front (omega arith)
+      ∙ get_or-append_right part (drop (n + 1 - at) (drop at slots)) (n + 1 - at) (i - at) 0 size (omega arith)
+      ∙ get_or-drop (n + 1 - at) (drop at slots) (i - at - (n + 1 - at)) 0 ∙ get_or-drop at slots (n + 1 - at + (i - at - (n + 1 - at))) 0
+      ∙ ap (λ (m : ℕ). get_or slots m 0) (omega arith)
+
+  pub moved-turned : Moved slots at n (put_mid at (n + 1 - at) slots part)
+  moved-turned = record { places = same_len_mid at (n + 1 - at) slots part same ∙ long; from = from-place }
 
 -- ---- the slots, one after another
 
