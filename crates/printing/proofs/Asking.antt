@@ -16,6 +16,7 @@ use Rattle.lists.proofs.Laws.Unmet.{unmet-none, unmet-left}
 use Rattle.lists.specs.Laws.Write.{sets}
 use Rattle.timing.specs.declared.Refusal.{Refusal}
 use Rattle.timing.specs.declared.Answer.{Answer}
+use Rattle.std.specs.Prelude.{Result}
 use Rattle.timing.specs.Field.{Bytes}
 use Rattle.timing.specs.Limits.{work_length}
 use Rattle.timing.specs.Table.{Table, pin_count}
@@ -109,7 +110,7 @@ module _ (t : Table) (mode k : ℕ) where
   printed-room room h = rw h at (room-printed room work_length)
 
 -- the contract of `print` decides the number and the bytes
-pub print-decides : (a : Answer) (pins : ℕ) (room : List ℤ) (out : Bytes) (r s : ℕ) (x y : Bytes)
+pub print-decides : (a : Result Answer Refusal) (pins : ℕ) (room : List ℤ) (out : Bytes) (r s : ℕ) (x y : Bytes)
     → (r ≡ counted (length (printed_room a pins room))) × (x ≡ sets out 0 (printed_room a pins room))
     → (s ≡ counted (length (printed_room a pins room))) × (y ≡ sets out 0 (printed_room a pins room)) → (r ≡ s) × (x ≡ y)
 print-decides a pins room out r s x y e f = (e.0 ∙ sym f.0, e.1 ∙ sym f.1)

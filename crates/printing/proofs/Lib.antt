@@ -1,4 +1,4 @@
-pub mod Spelling
+pub mod Putting
 pub mod Lines
 pub mod Rows
 pub mod Asking

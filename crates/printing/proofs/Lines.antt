@@ -1,31 +1,18 @@
 -- What is printed, made of its parts from the front to the end, as the code puts them.
 -- Assumes nothing.
 use Prim.Native.Nat.{ℕ, suc, ◌+◌}
-use mathlib.Core.Path.{◌≡◌, refl, ap, ◌∙◌}
+use mathlib.Core.Path.{◌≡◌, ap, ◌∙◌}
 use mathlib.Core.List.{List, [], ◌∷◌, ◌++◌, append_assoc, append-nil}
-use native.Mathlib.Numerals.{add-one}
 use native.Mathlib.Omega.{arith}
 use native.Mathlib.Nat.{add-zero}
 use lib.ListN.{length, take}
-use lib.IntN.{ℤ, pos, negsuc}
+use lib.IntN.{ℤ, pos}
 use Rattle.lists.specs.Parts.{gather}
 use Rattle.lists.proofs.Laws.Join.{gather-join}
-use Rattle.lists.specs.Laws.Integer.{up, down}
 use Rattle.timing.specs.Field.{Bytes, bytes}
-use Rattle.timing.specs.Printed.{digits, tab, printed_line, row_arcs, row_numbers, row_lines}
+use Rattle.timing.specs.Printed.{tab, printed_line, row_arcs, row_numbers, row_lines}
 
 -- ---- numbers
-
--- a number that is not below zero
-pub digits_up : (x : ℤ) → down x ≡ 0 → digits (pos (up x)) ≡ digits x
-digits_up (pos n) h = refl
-digits_up (negsuc n) h = absurd (omega arith)
-
--- a number below zero
-pub digits-down : (x : ℤ) → (down x ≡ 0 → ⊥) → 45 ∷ digits (pos (down x)) ≡ digits x
-unfolding digits
-digits-down (pos n) h = absurd (h refl)
-digits-down (negsuc n) h = rw add-one
 
 -- one number more
 pub gather-last : {A B : Type 0} (f : A → List B) (xs : List A) (x : A) → gather f (xs ++ (x ∷ [])) ≡ gather f xs ++ f x

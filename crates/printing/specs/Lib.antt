@@ -1,3 +1,4 @@
 pub mod Put
+pub mod Out
 pub mod Room
 pub mod Examples

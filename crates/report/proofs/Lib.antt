@@ -1,3 +1,4 @@
 -- What the proofs of several functions use.
 mod Order
-mod Signed
+pub mod Turned
+pub mod Numbers

@@ -1,6 +1,6 @@
 -- The answer to an asking that is not refused: the list tells the first k paths, and their rows are the rows of the table.
 -- Assumes nothing.
-use Rattle.std.specs.Prelude.{◌≡◌, false, ◌||◌, ℕ, ◌*◌, ◌≤◌, ◌<◌, eqb, ltb, length, take, drop, replicate}
+use Rattle.std.specs.Prelude.{◌≡◌, false, ◌||◌, ℕ, ◌*◌, ◌≤◌, ◌<◌, eqb, ltb, length, take, drop, replicate, Result, Ok, Err}
 use Rattle.std.proofs.Math.Path.{sym}
 use Rattle.std.proofs.Common.{ap, ap₂, ◌∙◌, mul-le-mul_right, arith, ltb-false, drop_of_length-le, length-take-le, get_or-take}
 use mathlib.Core.List.{List, [], ◌∷◌, ◌++◌, append-nil}
@@ -26,7 +26,6 @@ use Rattle.timing.specs.Rows.{mode_of, row_length, row, first_paths, rows, total
 use Rattle.timing.specs.Check.{table_grounds, table_fault}
 use Rattle.timing.specs.Asked.{asking_bad, room_bad, asking_grounds, asking_fault, table_rows, answer_of, answer, room_of, room_after, work_of, work_after}
 use Rattle.timing.specs.declared.Answer.{Answer}
-use Rattle.timing.specs.declared.Answer.TheVariants.{Given, Refused}
 use Rattle.timing.specs.declared.Candidate.{Candidate}
 use Rattle.timing.specs.declared.Refusal.{Refusal}
 use Rattle.timing.specs.declared.Refusal.TheVariants.{ModeOrK, RowRoom}
@@ -49,7 +48,7 @@ pub record Granted (t : Table) (k room work : ℕ) : Type 0 where
 
 -- rows given and total, the rows at the front of the room, and the work area all zero
 pub record Answers (t : Table) (mode k : ℕ) (room₀ room : List ℤ) (work : List ℕ) (r : Answer) : Type 0 where
-  pub told : r ≡ Given (length (table_rows t mode k)) (total (structure t))
+  pub told : r ≡ record { rows = length (table_rows t mode k); total = total (structure t) }
   pub rows-stand : room ≡ written (gather (λ (l : List ℤ). l) (table_rows t mode k)) room₀
   pub cleared : work ≡ replicate work_length 0
 
@@ -164,7 +163,7 @@ front-cleared n w y e = ap₂ (λ (a : List ℕ) (m : ℕ). a ++ drop m w) e (sy
 module _ (t : Table) (mode k : ℕ) (room : List ℤ) (work : List ℕ) where
   -- a refusal: nothing is written
   pub refused_all : (r : Refusal) → asking_fault t mode k (length room) (length work) ≡ some r
-      → (Refused r ≡ answer t mode k (length room) (length work)) × (room ≡ room_after t mode k room (length work)) × (work ≡ work_after t mode k (length room) work)
+      → (Err r ≡ answer t mode k (length room) (length work)) × (room ≡ room_after t mode k room (length work)) × (work ≡ work_after t mode k (length room) work)
   unfolding answer answer_of room_after room_of work_after work_of
   refused_all r h = (
     sym (ap (λ (o : Option Refusal). answer_of o t mode k) h),
@@ -174,17 +173,17 @@ module _ (t : Table) (mode k : ℕ) (room : List ℤ) (work : List ℕ) where
 
   -- an answer
   pub given-all : (r : Answer) (room' : List ℤ) (y : List ℕ) → asking_fault t mode k (length room) (length work) ≡ none → Answers t mode k room room' y r
-      → (r ≡ answer t mode k (length room) (length work)) × (room' ≡ room_after t mode k room (length work))
+      → (Ok r ≡ answer t mode k (length room) (length work)) × (room' ≡ room_after t mode k room (length work))
       × (y ++ drop work_length work ≡ work_after t mode k (length room) work)
   unfolding answer answer_of room_after room_of work_after work_of
   given-all r room' y h a = (
-    a.told ∙ sym (ap (λ (o : Option Refusal). answer_of o t mode k) h),
+    ap Ok a.told ∙ sym (ap (λ (o : Option Refusal). answer_of o t mode k) h),
     a.rows-stand ∙ sym (ap (λ (o : Option Refusal). room_of o t mode k room) h),
     front-cleared work_length work y a.cleared ∙ sym (ap (λ (o : Option Refusal). work_of o work) h),
   )
 
   -- the contract decides the answer, the room and the work area
-  pub ask-decides : (r s : Answer) (x y : List ℤ) (u v : List ℕ)
+  pub ask-decides : (r s : Result Answer Refusal) (x y : List ℤ) (u v : List ℕ)
       → (r ≡ answer t mode k (length room) (length work)) × (x ≡ room_after t mode k room (length work)) × (u ≡ work_after t mode k (length room) work)
       → (s ≡ answer t mode k (length room) (length work)) × (y ≡ room_after t mode k room (length work)) × (v ≡ work_after t mode k (length room) work)
       → (r ≡ s) × (x ≡ y) × (u ≡ v)

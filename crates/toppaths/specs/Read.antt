@@ -1,6 +1,6 @@
 -- A text that is read or refused, as the program meets it: what it may lend to the asking, and what it prints.
 -- Assumes nothing.
-use Rattle.std.specs.Prelude.{ℕ, ◌≤◌, ◌≡◌, refl, List, [], length, take, ltb, ℤ}
+use Rattle.std.specs.Prelude.{ℕ, ◌≤◌, ◌≡◌, refl, List, [], length, take, ltb, ℤ, Result, Ok, Err}
 use Rattle.std.proofs.Math.Option.{Option, none, some}
 use Rattle.std.proofs.Common.{arith, ltb-false}
 use Rattle.lists.specs.Parts.{gather, below}
@@ -8,9 +8,8 @@ use Rattle.lists.proofs.Laws.Unmet.{unmet-none, unmet-first, unmet-rest, unmet-r
 use Rattle.lists.proofs.Laws.Write.{written-front}
 use Rattle.timing.specs.declared.Refusal.{Refusal}
 use Rattle.timing.specs.declared.Refusal.TheVariants.{TableRoom}
-use Rattle.timing.specs.declared.Reading.TheVariants.{Read, Refused}
+use Rattle.timing.specs.declared.Reading.{Reading}
 use Rattle.timing.specs.declared.Answer.{Answer}
-use Rattle.timing.specs.declared.Answer.TheVariants.{Refused as NotGiven}
 use Rattle.timing.specs.Limits.{work_length}
 use Rattle.timing.specs.Table.{Table, pin_count}
 use Rattle.timing.specs.Asked.{answer, room_after}
@@ -32,44 +31,42 @@ fits x room h =
     ltb-false room (table_length x) (unmet-first (ltb room (table_length x)) TableRoom [] (unmet-right (ask_grounds x (ask_number x)) _ w))
 
 -- what a reading that is no refusal tells
-pub record ReadAs (x : Bytes) (room n mode k : ℕ) : Type 0 where
+pub record ReadAs (x : Bytes) (room : ℕ) (r : Reading) : Type 0 where
   fine : text_fault x room ≡ none
-  length-is : n ≡ table_length x
-  mode-is : mode ≡ mode_asked x
-  k-is : k ≡ k_asked x
+  is : r ≡ record { length = table_length x; mode = mode_asked x; k = k_asked x }
 
-read-as-of : (x : Bytes) (room n mode k : ℕ) (f : Option Refusal) → text_fault x room ≡ f → Read n mode k ≡ reading_of f x → ReadAs x room n mode k
+read-as-of : (x : Bytes) (room : ℕ) (r : Reading) (f : Option Refusal) → text_fault x room ≡ f → Ok r ≡ reading_of f x → ReadAs x room r
 unfolding reading_of
-read-as-of x room n mode k none e h = record { fine = e; length-is = cc; mode-is = cc; k-is = cc }
-read-as-of x room n mode k (some r) e h = let z : ◌≡◌ {A = ℕ} 0 1 = cc in absurd (omega arith)
+read-as-of x room r none e h = record { fine = e; is = cc }
+read-as-of x room r (some q) e h = cc
 
-pub read_as : (x : Bytes) (room n mode k : ℕ) → Read n mode k ≡ reading x room → ReadAs x room n mode k
+pub read_as : (x : Bytes) (room : ℕ) (r : Reading) → Ok r ≡ reading x room → ReadAs x room r
 unfolding reading
-read_as x room n mode k h = read-as-of x room n mode k (text_fault x room) refl h
+read_as x room r h = read-as-of x room r (text_fault x room) refl h
 
 -- the length that is lent to the asking
-pub read_fits : (x : Bytes) (room n mode k : ℕ) → Read n mode k ≡ reading x room → n ≤ room
-read_fits x room n mode k h = let r = read_as x room n mode k h in rw r.length-is (fits x room r.fine)
+pub read_fits : (x : Bytes) (room : ℕ) (r : Reading) → Ok r ≡ reading x room → r.length ≤ room
+read_fits x room r h = let a = read_as x room r h in rw a.is (fits x room a.fine)
 
 -- the table stands in it
-pub read_table : (x : Bytes) (room : List ℕ) (n mode k : ℕ) → Read n mode k ≡ reading x (length room) → take n (room_filled x room) ≡ table_of x
+pub read_table : (x : Bytes) (room : List ℕ) (r : Reading) → Ok r ≡ reading x (length room) → take r.length (room_filled x room) ≡ table_of x
 unfolding room_filled filled_of
-read_table x room n mode k h =
-    let r = read_as x (length room) n mode k h in
-    rw (r.fine, r.length-is, ← (table-length x)) (written-front (table_of x) room)
+read_table x room r h =
+    let a = read_as x (length room) r h in
+    rw (a.fine, a.is, ← (table-length x)) (written-front (table_of x) room)
 
 -- what the program prints of a text that is read
-pub read-printed : (x : Bytes) (n mode k : ℕ) → Read n mode k ≡ reading x table_room → printed_table (table_of x) mode k ≡ printed x
+pub read-printed : (x : Bytes) (r : Reading) → Ok r ≡ reading x table_room → printed_table (table_of x) r.mode r.k ≡ printed x
 unfolding printed printed_reading
-read-printed x n mode k h = rw (← h) refl
+read-printed x r h = rw (← h) refl
 
 -- and of one that is refused
-pub refused-printed : (x : Bytes) (r : Refusal) (pins : ℕ) (room : List ℤ) → Refused r ≡ reading x table_room → printed_room (NotGiven r) pins room ≡ printed x
+pub refused-printed : (x : Bytes) (r : Refusal) (pins : ℕ) (room : List ℤ) → Err r ≡ reading x table_room → printed_room (Err r) pins room ≡ printed x
 unfolding printed printed_reading printed_room printed_answer
 refused-printed x r pins room h = rw (← h) refl
 
 -- what the program prints of a table: the answer and the rows in the room that it lends
-pub asked-printed : (t : Table) (mode k : ℕ) (room : List ℤ) (work : List ℕ) (a : Answer) (after : List ℤ) (pins : ℕ)
+pub asked-printed : (t : Table) (mode k : ℕ) (room : List ℤ) (work : List ℕ) (a : Result Answer Refusal) (after : List ℤ) (pins : ℕ)
     → length room ≡ row_room → length work ≡ work_length → a ≡ answer t mode k (length room) (length work)
     → after ≡ room_after t mode k room (length work) → pins ≡ pin_count t → printed_room a pins after ≡ printed_table t mode k
 asked-printed t mode k room work a after pins l w ea er ep = rw (ea, er, ep, l, w) (printed-room t mode k room l)

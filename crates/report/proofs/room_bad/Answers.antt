@@ -4,5 +4,5 @@ use native.Mathlib.Nat.{mul-le-mul_right}
 use native.Mathlib.Omega.{arith}
 use Rattle.report.proofs.room_bad.Goals as goal
 
-pub overflow_mul-result : goal.overflow_mul-result
-overflow_mul-result c = omega (arith, mul-le-mul_right (c.args.pins + 5) c.requires.1)
+pub overflow_mul-k : goal.overflow_mul-k
+overflow_mul-k c = omega (arith, mul-le-mul_right (c.args.pins + 5) c.requires.1)

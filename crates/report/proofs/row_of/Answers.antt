@@ -1,63 +1,46 @@
 -- `report::row_of` meets its contract: start and credit come from the walk that stands in the slot. Assumes nothing.
-use mathlib.Core.Path.{◌≡◌, ◌∙◌}
-use Prim.Native.Nat.{◌+◌, ◌-◌}
+use Rattle.std.proofs.Common.{◌≡◌, ◌+◌, ◌-◌, ◌∙◌, arith, rules, length, take, drop, get_or}
 use mir.Syntax.{w64}
-use mir.Val.{to_z, of_z}
-use mir.ValLaws.{to_z-of_z}
-use lib.ListN.{length, get_or, take, drop}
-use Rattle.timing.specs.Table.{test_clock}
-use Rattle.timing.specs.Structure.{structure}
-use Rattle.timing.specs.Paths.{start}
-use Rattle.clocks.specs.Clocked.{Credited}
-use Rattle.report.specs.Row.{head_length, row_of}
+use mir.Val.{SFits}
 use Rattle.area.specs.Area.{slot_at}
-use Rattle.report.specs.Rowed.{path_in, start_is, asks, puts, out-is}
+use Rattle.report.specs.Row.{walk-length}
+use Rattle.report.proofs.Numbers.{fits, head_told, lent_room, lent-small, may_ask, may_put, row_is}
 use Rattle.report.proofs.row_of.Goals as goal
 
 pub credit_from-credit-requires : goal.credit_from-credit-requires
-credit_from-credit-requires c =
-    -- how many arcs stand in the slot
-    let n : c.count-n.result ≡ get_or c.args.work.now (slot_at c.args.slot) 0 = c.count-n.ensures in
-    -- the start of the path
-    let st : c.of_arc-start.result ≡ start (structure c.args.table.now) (path_in c.args.work.now c.args.c c.args.slot) =
-    rw (c.count.ensures, n) at c.of_arc-start.ensures
-    ∙ start_is c.args.table.now c.args.work.now c.args.c c.args.slot c.requires.clocked c.requires.tells in
-    -- the clock pin of its test
-    let cl : c.of_test-clock.result ≡ test_clock c.args.table.now c.args.c.test = rw c.count-2.ensures at c.of_test-clock.ensures in
-    rw (cl, st) (asks c.args.table.now c.args.work.now c.args.c c.args.slot c.requires.clocked c.requires.tells)
+credit_from-credit-requires c = may_ask _ _ c.args.c c.args.slot c.requires.clocked c.requires.tells _ _ c.test_clock-clock.ensures c.arc_from-start.ensures
 
-pub put_row-requires : goal.put_row-requires
-put_row-requires c =
-    -- how many arcs stand in the slot
-    let n : c.count-n.result ≡ get_or c.args.work.now (slot_at c.args.slot) 0 = c.count-n.ensures in
-    -- the start of the path
-    let st : c.of_arc-start.result ≡ start (structure c.args.table.now) (path_in c.args.work.now c.args.c c.args.slot) =
-    rw (c.count.ensures, n) at c.of_arc-start.ensures
-    ∙ start_is c.args.table.now c.args.work.now c.args.c c.args.slot c.requires.clocked c.requires.tells in
-    -- the clock pin of its test
-    let cl : c.of_test-clock.result ≡ test_clock c.args.table.now c.args.c.test = rw c.count-2.ensures at c.of_test-clock.ensures in
-    -- its credit
-    let cr : Credited c.args.table.now (test_clock c.args.table.now c.args.c.test) (start (structure c.args.table.now) (path_in c.args.work.now c.args.c c.args.slot)) c.credit_from-credit.result =
-    rw (cl, st) at c.credit_from-credit.ensures in
-    rw (c.wide.ensures, c.wide-2.ensures, st, n)
-    (puts c.args.table.now c.args.work.now c.args.c c.args.slot c.requires.clocked c.requires.tells _ cr _ c.requires.room)
+pub overflow_cast-head : goal.overflow_cast-head
+overflow_cast-head c =
+    fits _ (may_put _ _ c.args.c c.args.slot c.requires.clocked c.requires.tells _ _ c.test_clock-clock.ensures c.arc_from-start.ensures _ _ c.credit_from-credit.ensures c.requires.room).fits.credit-fits
+
+pub overflow_cast-head-2 : goal.overflow_cast-head-2
+overflow_cast-head-2 c =
+    fits _ (may_put _ _ c.args.c c.args.slot c.requires.clocked c.requires.tells _ _ c.test_clock-clock.ensures c.arc_from-start.ensures _ _ c.credit_from-credit.ensures c.requires.room).fits.test_fits
+
+pub put_row-requires-clause-room : goal.put_row-requires-clause-room
+put_row-requires-clause-room c =
+    let w = c.args.work.now in
+    let at = slot_at c.args.slot in
+    let p = may_put _ _ c.args.c c.args.slot c.requires.clocked c.requires.tells _ _ c.test_clock-clock.ensures c.arc_from-start.ensures _ _ c.credit_from-credit.ensures c.requires.room in
+    lent_room w (at + 1) _ (get_or w at 0) (omega arith) p.walk.inside _ p.room
+
+pub put_row-requires-clause-small : goal.put_row-requires-clause-small
+put_row-requires-clause-small c =
+    let w = c.args.work.now in
+    let at = slot_at c.args.slot in
+    let p = may_put _ _ c.args.c c.args.slot c.requires.clocked c.requires.tells _ _ c.test_clock-clock.ensures c.arc_from-start.ensures _ _ c.credit_from-credit.ensures c.requires.room in
+    lent-small w (at + 1) _ (get_or w at 0) (omega arith) p.walk.inside p.walk.small
 
 pub returns : goal.returns
 returns c =
-    -- how many arcs stand in the slot
-    let n : c.count-n.result ≡ get_or c.args.work.now (slot_at c.args.slot) 0 = c.count-n.ensures in
-    -- the start of the path
-    let st : c.of_arc-start.result ≡ start (structure c.args.table.now) (path_in c.args.work.now c.args.c c.args.slot) =
-    rw (c.count.ensures, n) at c.of_arc-start.ensures
-    ∙ start_is c.args.table.now c.args.work.now c.args.c c.args.slot c.requires.clocked c.requires.tells in
-    -- the clock pin of its test
-    let cl : c.of_test-clock.result ≡ test_clock c.args.table.now c.args.c.test = rw c.count-2.ensures at c.of_test-clock.ensures in
-    -- its credit
-    let cr : Credited c.args.table.now (test_clock c.args.table.now c.args.c.test) (start (structure c.args.table.now) (path_in c.args.work.now c.args.c c.args.slot)) c.credit_from-credit.result =
-    rw (cl, st) at c.credit_from-credit.ensures in
-    let t = c.args.table.now in
     let w = c.args.work.now in
-    let e : c.put_row.new.row ≡ row_of (length c.args.row.now - head_length) (to_z w64 (of_z w64 c.args.c.slack)) c.credit_from-credit.result c.args.c.test c.wide.result (take c.wide-2.result (drop (slot_at c.args.slot + 1) w)) = c.put_row.ensures in
-    let z : to_z w64 (of_z w64 c.args.c.slack) ≡ c.args.c.slack = to_z-of_z w64 c.args.c.slack (record { sfits = c.struct_told-1.given.0.1 }) in
-    (rw (z, c.wide.ensures, c.wide-2.ensures, st, n) at e)
-    ∙ out-is t w c.args.c c.args.slot c.requires.clocked c.requires.tells _ cr _ c.requires.room
+    let at = slot_at c.args.slot in
+    let n = get_or w at 0 in
+    let m = at + 1 + n - (at + 1) in
+    let p = may_put _ _ c.args.c c.args.slot c.requires.clocked c.requires.tells _ _ c.test_clock-clock.ensures c.arc_from-start.ensures _ _ c.credit_from-credit.ensures c.requires.room in
+    let cut : m ≡ n = omega arith in
+    let own : SFits w64 c.args.c.slack = search rules in
+    let long : length (take m (drop (at + 1) w)) ≡ n = rw cut (walk-length w (at + 1) n p.walk.inside) in
+    head_told c.args.c.slack _ _ _ _ _ _ _ own p.fits long c.put_row.ensures
+    ∙ row_is _ _ c.args.c c.args.slot c.requires.clocked c.requires.tells _ _ c.test_clock-clock.ensures c.arc_from-start.ensures _ _ c.credit_from-credit.ensures c.requires.room m cut

@@ -1,7 +1,6 @@
 -- `toppaths::answer` meets its contract: a text that is read lends its table to the asking, one that is refused prints its refusal. Assumes nothing.
-use Rattle.std.proofs.Common.{◌≡◌, ap, ◌∙◌, length, take, arith, rules}
+use Rattle.std.proofs.Common.{◌≡◌, sym, ap, ◌∙◌, length, take, arith, rules, Ok, Err}
 use Rattle.lists.specs.Laws.Write.{sets}
-use Rattle.timing.specs.declared.Reading.TheVariants.{Read, Refused}
 use Rattle.timing.specs.Table.{Table}
 use Rattle.timing.specs.Field.{Bytes}
 use Rattle.timing.specs.Text.{reading}
@@ -11,28 +10,23 @@ use Rattle.toppaths.specs.Read.{read_fits, read_table, read-printed, refused-pri
 use Rattle.toppaths.proofs.answer.Goals as goal
 
 pub slice_bounds-asked-end : goal.slice_bounds-asked-end
-slice_bounds-asked-end c =
-    let told : Read c.in-Read.length c.in-Read.mode c.in-Read.k ≡ reading c.args.text.now (length c.args.table.now) = cc in
-    let f = read_fits _ _ _ _ _ told in
-    omega arith
+slice_bounds-asked-end c = let f = read_fits c.args.text.now (length c.args.table.now) c.in-Ok.field-0 (sym c.in-Ok.is ∙ c.read.ensures.0) in omega arith
 
-pub slice_bounds-asked-end-in-Read : goal.slice_bounds-asked-end-in-Read
-slice_bounds-asked-end-in-Read c =
-    let told : Read c.in-Read.length c.in-Read.mode c.in-Read.k ≡ reading c.args.text.now (length c.args.table.now) = cc in
-    let f = read_fits _ _ _ _ _ told in
-    search rules
+pub slice_bounds-asked-end-in-Ok : goal.slice_bounds-asked-end-in-Ok
+slice_bounds-asked-end-in-Ok c = let f = read_fits c.args.text.now (length c.args.table.now) c.in-Ok.field-0 (sym c.in-Ok.is ∙ c.read.ensures.0) in search rules
 
-pub returns-in-Refused : goal.returns-in-Refused
-returns-in-Refused c =
-    let told : Refused c.in-Refused.r ≡ reading c.args.text.now (length c.args.table.now) = cc in
-    let e = refused-printed c.args.text.now c.in-Refused.r 0 c.args.room.now (told ∙ ap (reading c.args.text.now) c.requires.0) in
-    (c.print.ensures.0 ∙ ap (λ (x : Bytes). counted (length x)) e, c.print.ensures.1 ∙ ap (λ (x : Bytes). sets c.args.out.now 0 x) e)
-
-pub returns-in-Read : goal.returns-in-Read
-returns-in-Read c =
+pub returns-in-Ok : goal.returns-in-Ok
+returns-in-Ok c =
     let s = c.args in
-    let g = c.in-Read in
-    let told : Read g.length g.mode g.k ≡ reading s.text.now (length s.table.now) = cc in
-    let table = ap (take g.length) c.read-reading.ensures.1 ∙ read_table s.text.now s.table.now g.length g.mode g.k told in
-    let e = ap (λ (t : Table). printed_table t g.mode g.k) table ∙ read-printed s.text.now g.length g.mode g.k (told ∙ ap (reading s.text.now) c.requires.0) in
+    let r = c.in-Ok.field-0 in
+    let told : Ok r ≡ reading s.text.now (length s.table.now) = sym c.in-Ok.is ∙ c.read.ensures.0 in
+    let table = ap (take r.length) c.read.ensures.1 ∙ read_table s.text.now s.table.now r told in
+    let e = ap (λ (t : Table). printed_table t r.mode r.k) table ∙ read-printed s.text.now r (told ∙ ap (reading s.text.now) c.requires.0) in
     (c.asked.ensures.0 ∙ ap (λ (x : Bytes). counted (length x)) e, c.asked.ensures.1 ∙ ap (λ (x : Bytes). sets s.out.now 0 x) e)
+
+pub returns-in-Err : goal.returns-in-Err
+returns-in-Err c =
+    let s = c.args in
+    let told : Err c.in-Err.refusal ≡ reading s.text.now (length s.table.now) = sym c.in-Err.is ∙ c.read.ensures.0 in
+    let e = refused-printed s.text.now c.in-Err.refusal 0 s.room.now (told ∙ ap (reading s.text.now) c.requires.0) in
+    (c.print.ensures.0 ∙ ap (λ (x : Bytes). counted (length x)) e, c.print.ensures.1 ∙ ap (λ (x : Bytes). sets s.out.now 0 x) e)
