@@ -1,19 +1,13 @@
 -- Nothing is lost on the way to C: from the numbers told, the answer is had back. So the contracts of the exported functions say as much as those of the
 -- operations behind them, and decide the result and the memory as those do.
 -- Assumes nothing.
-use Rattle.std.specs.Prelude.{ℕ, ◌≡◌, refl, false, List, [], ◌∷◌, length, get_or, eqb, ℤ}
+use Rattle.std.specs.Prelude.{ℕ, ◌≡◌, refl, false, List, [], ◌∷◌, length, get_or, eqb, ℤ, Result, Ok, Err}
 use Rattle.std.proofs.Common.{sym, ap, ◌∙◌}
 use Rattle.lists.specs.Choice.{pick}
 use Rattle.timing.specs.declared.Refusal.{Refusal}
 use Rattle.timing.specs.declared.Refusal.TheVariants.{TextLong, LineNotDue, FieldCount, FieldForm, TableRoom, TableHeader, PinNumbers, RootCount, ArcEnds, ArcKinds, ArcRange, ArcsInto, TestNumbers, ModeOrK, RowRoom, ListCount}
 use Rattle.timing.specs.declared.Reading.{Reading}
-use Rattle.timing.specs.declared.Reading.TheVariants.{Read, Refused as NotRead}
-use Rattle.timing.specs.declared.Checked.{Checked}
-use Rattle.timing.specs.declared.Checked.TheVariants.{Fine, Refused as NotFine}
 use Rattle.timing.specs.declared.Answer.{Answer}
-use Rattle.timing.specs.declared.Answer.TheVariants.{Given, Refused as NotGiven}
-use Rattle.timing.specs.declared.Entered.{Entered}
-use Rattle.timing.specs.declared.Entered.TheVariants.{Count, Refused as NotEntered}
 use Rattle.timing.specs.declared.Candidate.{Candidate}
 use Rattle.timing.specs.Refusals.{number_of, place_of, checked_of}
 use Rattle.timing.specs.Table.{Table}
@@ -83,37 +77,37 @@ refused-back : {A : Type 0} (n : ℕ) (x y z : A) → eqb n 0 ≡ false → y �
 unfolding pick
 refused-back n x y z h e = rw h e
 
-unfoldable pub reading_from : ReadingTold → Reading
-reading_from t = pick (eqb t.refusal 0) (Read t.length t.mode t.k) (NotRead (refusal_at t.refusal t.place))
+unfoldable pub reading_from : ReadingTold → Result Reading Refusal
+reading_from t = pick (eqb t.refusal 0) (Ok (record { length = t.length; mode = t.mode; k = t.k })) (Err (refusal_at t.refusal t.place))
 
-pub reading-back : (x : Reading) → reading_from (reading_told x) ≡ x
+pub reading-back : (x : Result Reading Refusal) → reading_from (reading_told x) ≡ x
 unfolding reading_from pick
-reading-back (Read n m k) = refl
-reading-back (NotRead r) = refused-back (number_of r) (Read 0 0 0) _ _ (never-0 r) (ap NotRead (refusal-back r))
+reading-back (Ok a) = refl
+reading-back (Err r) = refused-back (number_of r) _ _ _ (never-0 r) (ap Err (refusal-back r))
 
-unfoldable pub checked_from : CheckedTold → Checked
-checked_from t = pick (eqb t.refusal 0) Fine (NotFine (refusal_at t.refusal t.place))
+unfoldable pub checked_from : CheckedTold → Result Unit Refusal
+checked_from t = pick (eqb t.refusal 0) (Ok tt) (Err (refusal_at t.refusal t.place))
 
-pub checked-back : (x : Checked) → checked_from (checked_told x) ≡ x
+pub checked-back : (x : Result Unit Refusal) → checked_from (checked_told x) ≡ x
 unfolding checked_from pick
-checked-back Fine = refl
-checked-back (NotFine r) = refused-back (number_of r) Fine _ _ (never-0 r) (ap NotFine (refusal-back r))
+checked-back (Ok u) = refl
+checked-back (Err r) = refused-back (number_of r) _ _ _ (never-0 r) (ap Err (refusal-back r))
 
-unfoldable pub answer_from : AnswerTold → Answer
-answer_from t = pick (eqb t.refusal 0) (Given t.rows t.total) (NotGiven (refusal_at t.refusal t.place))
+unfoldable pub answer_from : AnswerTold → Result Answer Refusal
+answer_from t = pick (eqb t.refusal 0) (Ok (record { rows = t.rows; total = t.total })) (Err (refusal_at t.refusal t.place))
 
-pub answer_back : (x : Answer) → answer_from (answer_told x) ≡ x
+pub answer_back : (x : Result Answer Refusal) → answer_from (answer_told x) ≡ x
 unfolding answer_from pick
-answer_back (Given rows total) = refl
-answer_back (NotGiven r) = refused-back (number_of r) (Given 0 0) _ _ (never-0 r) (ap NotGiven (refusal-back r))
+answer_back (Ok a) = refl
+answer_back (Err r) = refused-back (number_of r) _ _ _ (never-0 r) (ap Err (refusal-back r))
 
-unfoldable pub entered_from : EnteredTold → Entered
-entered_from t = pick (eqb t.refusal 0) (Count t.count) (NotEntered (refusal_at t.refusal t.place))
+unfoldable pub entered_from : EnteredTold → Result ℕ Refusal
+entered_from t = pick (eqb t.refusal 0) (Ok t.count) (Err (refusal_at t.refusal t.place))
 
-pub entered-back : (x : Entered) → entered_from (entered_told x) ≡ x
+pub entered-back : (x : Result ℕ Refusal) → entered_from (entered_told x) ≡ x
 unfolding entered_from pick
-entered-back (Count n) = refl
-entered-back (NotEntered r) = refused-back (number_of r) (Count 0) _ _ (never-0 r) (ap NotEntered (refusal-back r))
+entered-back (Ok n) = refl
+entered-back (Err r) = refused-back (number_of r) _ _ _ (never-0 r) (ap Err (refusal-back r))
 
 -- ---- the contracts decide
 

@@ -1,4 +1,4 @@
-// The library for C and Rust callers: the operations under names of C. A slice crosses as a pointer and a length; an answer, which is an enum inside,
+// The library for C and Rust callers: the operations under names of C. A slice crosses as a pointer and a length; an answer, which is a `Result` inside,
 // crosses as a struct of numbers in which refusal 0 means that the operation answered.
 #![tactic(auto)]
 
@@ -10,17 +10,38 @@ ghost use Rattle.timing.specs.Asked.{answer, room_after, work_after};
 ghost use Rattle.timing.specs.Ranked.{enter_answer, list_after};
 ghost use Rattle.chthonyra.specs.Told.{reading_told, line_told, checked_told, answer_told, entered_told};
 
-use timing::{Answer, Candidate, Checked, Entered, Reading};
+use timing::{Answer, Candidate, Reading, Refusal};
 
-// What a reading tells: the refusal's number and place, or the table's length, the mode and k.
+// What a reading tells: the refusal's number and place, or the table's length, the mode and k. Here and below, a number without a meaning is 0.
+// Stays: C callers see refusal and place as fields of each of the four structs, at these offsets.
 #[repr(C)]
-#[derive(Clone, Copy)]
+#[derive(Clone, Copy, Default)]
 pub struct ReadingTold {
     pub refusal: u32,
     pub mode: u32,
     pub place: usize,
     pub length: usize,
     pub k: usize,
+}
+
+impl From<Result<Reading, Refusal>> for ReadingTold {
+    ghost from_gives = { λ answer told. told ≡ reading_told answer };
+
+    fn from(answer: Result<Reading, Refusal>) -> Self {
+        match answer {
+            Ok(Reading { length, mode, k }) => Self {
+                length,
+                mode,
+                k,
+                ..Self::default()
+            },
+            Err(r) => Self {
+                refusal: r.number(),
+                place: r.place(),
+                ..Self::default()
+            },
+        }
+    }
 }
 
 // Where a line stands in its text: the offset of its first byte, and its length without byte 10.
@@ -33,15 +54,29 @@ pub struct LineTold {
 
 // What a check tells: the refusal's number and place.
 #[repr(C)]
-#[derive(Clone, Copy)]
+#[derive(Clone, Copy, Default)]
 pub struct CheckedTold {
     pub refusal: u32,
     pub place: usize,
 }
 
+impl From<Result<(), Refusal>> for CheckedTold {
+    ghost from_gives = { λ answer told. told ≡ checked_told answer };
+
+    fn from(answer: Result<(), Refusal>) -> Self {
+        match answer {
+            Ok(()) => Self::default(),
+            Err(r) => Self {
+                refusal: r.number(),
+                place: r.place(),
+            },
+        }
+    }
+}
+
 // What an asking tells: the refusal's number and place, or rows given and total.
 #[repr(C)]
-#[derive(Clone, Copy)]
+#[derive(Clone, Copy, Default)]
 pub struct AnswerTold {
     pub refusal: u32,
     pub place: usize,
@@ -49,88 +84,49 @@ pub struct AnswerTold {
     pub total: u64,
 }
 
+impl From<Result<Answer, Refusal>> for AnswerTold {
+    ghost from_gives = { λ answer told. told ≡ answer_told answer };
+
+    fn from(answer: Result<Answer, Refusal>) -> Self {
+        match answer {
+            Ok(Answer { rows, total }) => Self {
+                rows,
+                total,
+                ..Self::default()
+            },
+            Err(r) => Self {
+                refusal: r.number(),
+                place: r.place(),
+                ..Self::default()
+            },
+        }
+    }
+}
+
 // What entering a record tells: the refusal's number and place, or the new count.
 #[repr(C)]
-#[derive(Clone, Copy)]
+#[derive(Clone, Copy, Default)]
 pub struct EnteredTold {
     pub refusal: u32,
     pub place: usize,
     pub count: usize,
 }
 
-// A reading as numbers; 0 wherever a number has no meaning.
-fn reading_told(r: Reading) -> ReadingTold
-    ensures { result ≡ reading_told r }
-{
-    match r {
-        Reading::Read { length, mode, k } => ReadingTold {
-            refusal: 0,
-            mode: mode,
-            place: 0,
-            length: length,
-            k: k,
-        },
-        Reading::Refused(f) => ReadingTold {
-            refusal: timing::number_of(f),
-            mode: 0,
-            place: timing::place_of(f),
-            length: 0,
-            k: 0,
-        },
-    }
-}
+impl From<Result<usize, Refusal>> for EnteredTold {
+    ghost from_gives = { λ answer told. told ≡ entered_told answer };
 
-// A check as numbers.
-fn checked_told(r: Checked) -> CheckedTold
-    ensures { result ≡ checked_told r }
-{
-    match r {
-        Checked::Fine => CheckedTold {
-            refusal: 0,
-            place: 0,
-        },
-        Checked::Refused(f) => CheckedTold {
-            refusal: timing::number_of(f),
-            place: timing::place_of(f),
-        },
-    }
-}
-
-// An answer as numbers.
-fn answer_told(r: Answer) -> AnswerTold
-    ensures { result ≡ answer_told r }
-{
-    match r {
-        Answer::Given { rows, total } => AnswerTold {
-            refusal: 0,
-            place: 0,
-            rows: rows,
-            total: total,
-        },
-        Answer::Refused(f) => AnswerTold {
-            refusal: timing::number_of(f),
-            place: timing::place_of(f),
-            rows: 0,
-            total: 0,
-        },
-    }
-}
-
-// What entering a record answered, as numbers.
-fn entered_told(r: Entered) -> EnteredTold
-    ensures { result ≡ entered_told r }
-{
-    match r {
-        Entered::Count(count) => EnteredTold {
-            refusal: 0,
-            place: 0,
-            count: count,
-        },
-        Entered::Refused(f) => EnteredTold {
-            refusal: timing::number_of(f),
-            place: timing::place_of(f),
-            count: 0,
-        },
+    fn from(answer: Result<usize, Refusal>) -> Self {
+        match answer {
+            Ok(count) => Self {
+                count,
+                ..Self::default()
+            },
+            Err(r) => Self {
+                refusal: r.number(),
+                place: r.place(),
+                ..Self::default()
+            },
+        }
     }
 }
 
@@ -139,7 +135,7 @@ fn entered_told(r: Entered) -> EnteredTold
 pub extern "C" fn chthonyra_read(text: &[u8], table: &mut [u32]) -> ReadingTold
     ensures { (result ≡ reading_told (reading text.now (length table.old))) × (table.new ≡ room_filled text.now table.old) }
 {
-    reading_told(reader::read(text, table))
+    reader::read(text, table).into()
 }
 
 // Where line n of a text stands, counted from 1; outside the lines the empty part at the text's end.
@@ -147,11 +143,9 @@ pub extern "C" fn chthonyra_read(text: &[u8], table: &mut [u32]) -> ReadingTold
 pub extern "C" fn chthonyra_line(text: &[u8], n: usize) -> LineTold
     ensures { result ≡ line_told text.now n }
 {
-    let a = reader::line_start(text, n);
-    let l = reader::line(text, n);
     LineTold {
-        start: a,
-        length: l.len(),
+        start: reader::line_start(text, n),
+        length: reader::line(text, n).len(),
     }
 }
 
@@ -160,7 +154,7 @@ pub extern "C" fn chthonyra_line(text: &[u8], n: usize) -> LineTold
 pub extern "C" fn chthonyra_check(table: &[u32]) -> CheckedTold
     ensures { result ≡ checked_told (checked_of (table_fault table.now)) }
 {
-    checked_told(tables::check(table))
+    tables::check(table).into()
 }
 
 // The k worst paths of a table, as rows at the front of the room: refusals 6 to 15.
@@ -174,7 +168,7 @@ pub extern "C" fn chthonyra_ask(
 ) -> AnswerTold
     ensures { (result ≡ answer_told (answer table.now mode k (length room.old) (length work.old))) × (room.new ≡ room_after table.now mode k room.old (length work.old)) × (work.new ≡ work_after table.now mode k (length room.old) work.old) }
 {
-    answer_told(report::ask(table, mode, k, room, work))
+    report::ask(table, mode, k, room, work).into()
 }
 
 // Enters a record among the first count of a lent list of records: refusal 16.
@@ -182,5 +176,5 @@ pub extern "C" fn chthonyra_ask(
 pub extern "C" fn chthonyra_enter(list: &mut [Candidate], count: usize, c: Candidate) -> EnteredTold
     ensures { (result ≡ entered_told (enter_answer count (length list.old))) × (list.new ≡ list_after list.old count c) }
 {
-    entered_told(ranked::enter(list, count, c))
+    ranked::enter(list, count, c).into()
 }

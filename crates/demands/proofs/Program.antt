@@ -4,8 +4,9 @@
 -- asking allow and whatever the memory held that was lent to them: "It prints for each row `path`, rank, slack, credit, test, start and the arcs from the
 -- start; then `end`, rows and total; tabs between. On a refusal it prints one line only: `refused`, number, place, with tabs between."
 -- Assumes nothing.
-use Rattle.std.specs.Prelude.{◌≡◌, List, ℕ, length, ℤ}
+use Rattle.std.specs.Prelude.{◌≡◌, List, ℕ, length, ℤ, Result}
 use Rattle.std.proofs.Common.{◌∙◌}
+use Rattle.timing.specs.declared.Refusal.{Refusal}
 use Rattle.timing.specs.declared.Reading.{Reading}
 use Rattle.timing.specs.Limits.{work_length}
 use Rattle.timing.specs.Field.{Bytes}
@@ -16,12 +17,12 @@ use Rattle.demands.proofs.Laws.Printing.{refused-printed, asked-printed}
 use Rattle.demands.specs.Program.{TextPrinted}
 
 pub program : (x : Bytes) (table : List ℕ) (room : List ℤ) (work : List ℕ) → length table ≡ table_room → length room ≡ row_room → length work ≡ work_length
-    → (r : Reading) (table' : List ℕ) → ReadAllows x table r table' → TextPrinted x r table' room work
+    → (r : Result Reading Refusal) (table' : List ℕ) → ReadAllows x table r table' → TextPrinted x r table' room work
 unfolding refused_line printed_room printed_answer
 program x table room work lt lr lw r table' a =
     record {
       refused = refused-printed x table lt r table' a;
-      asked = λ n mode k e b room' work' h.
-          let p = asked-printed x table lt r table' a n mode k e room work lr lw b room' work' h in
-          record { refused = λ q f. p ∙ rw f; given = λ rows total f. p ∙ rw f };
+      asked = λ c e b room' work' h.
+          let p = asked-printed x table lt r table' a c e room work lr lw b room' work' h in
+          record { refused = λ q f. p ∙ rw f; given = λ d f. p ∙ rw f };
     }

@@ -5,10 +5,9 @@
 -- and the list of all paths is whatever list has exactly them. So it can be read without the definitions that the code is proved against; that these agree
 -- is proved.
 -- Assumes nothing.
-use Rattle.std.specs.Prelude.{◌≡◌, ◌⊎◌, ◌≢◌, ◌↔◌, List, [], ◌∷◌, ◌++◌, reverse, ℕ, ◌+◌, ◌-◌, ◌<◌, length, replicate, ℤ, pos, ◌+ℤ◌, ◌-ℤ◌, ◌<ℤ◌}
+use Rattle.std.specs.Prelude.{◌≡◌, ◌⊎◌, ◌≢◌, ◌↔◌, List, [], ◌∷◌, ◌++◌, reverse, ℕ, ◌+◌, ◌-◌, ◌<◌, length, replicate, ℤ, pos, ◌+ℤ◌, ◌-ℤ◌, ◌<ℤ◌, Ok}
 use Rattle.lists.specs.Parts.{sum, each}
 use Rattle.lists.specs.Laws.Member.{In, Pairs}
-use Rattle.timing.specs.declared.Answer.TheVariants.{Given}
 use Rattle.timing.specs.Kinds.{R, B, K, I}
 use Rattle.timing.specs.Table.{Table, Edge, early, late}
 use Rattle.timing.specs.Structure.{Structure, pins, arcs, tests, kind, leaves, enters, clock_pin, data_pin, Times}
@@ -26,7 +25,7 @@ pub record Answered (t : Table) (mode k : ℕ) : Type 0 where
   pub total : ℕ
   pub room' : List ℤ
   pub work' : List ℕ
-  pub allowed : AskAllows t mode k room work (Given rows total) room' work'
+  pub allowed : AskAllows t mode k room work (Ok (record { rows = rows; total = total })) room' work'
 
 -- ---- paths
 

@@ -2,7 +2,7 @@
 -- Assumes nothing.
 use Rattle.std.proofs.Math.Path.{◌≡◌, refl}
 use Rattle.std.proofs.Common.{sym, ◌∙◌, inl, inr, arith}
-use Rattle.std.specs.Prelude.{◌⊎◌, List, ℕ, length, ℤ}
+use Rattle.std.specs.Prelude.{◌⊎◌, List, ℕ, length, ℤ, Result, Ok, Err}
 use Rattle.std.proofs.Math.Option.{Option, none, some, some-injective}
 use Rattle.lists.proofs.Laws.Means.{means-less}
 use Rattle.lists.specs.Laws.Decides.{Decides}
@@ -10,14 +10,8 @@ use Rattle.lists.proofs.Laws.Decides.{decides-one, decides-exactly}
 use Rattle.timing.specs.declared.Refusal.{Refusal}
 use Rattle.timing.specs.declared.Refusal.TheVariants.{ListCount}
 use Rattle.timing.specs.declared.Reading.{Reading}
-use Rattle.timing.specs.declared.Reading.TheVariants.{Read, Refused as NotRead}
-use Rattle.timing.specs.declared.Checked.{Checked}
-use Rattle.timing.specs.declared.Checked.TheVariants.{Fine, Refused as NotFine}
 use Rattle.timing.specs.declared.Answer.{Answer}
-use Rattle.timing.specs.declared.Answer.TheVariants.{Given, Refused as NotGiven}
 use Rattle.timing.specs.declared.Candidate.{Candidate}
-use Rattle.timing.specs.declared.Entered.{Entered}
-use Rattle.timing.specs.declared.Entered.TheVariants.{Count, Refused as NotEntered}
 use Rattle.timing.specs.Table.{Table}
 use Rattle.timing.specs.Field.{Bytes}
 use Rattle.timing.specs.Check.{table_fault}
@@ -50,25 +44,25 @@ refuses {Holds} {Says} {Accepts} o d s =
     by-case (some q) h = inr (q, (s.says q).0 h)
 
 -- ---- what each operation says
-pub reading-outcome : (x : Bytes) (table : List ℕ) (r : Reading) (table' : List ℕ) → ReadAllows x table r table'
-    → Outcome (text_fault x (length table)) (λ q. r ≡ NotRead q) ((n : ℕ) × (mode : ℕ) × (k : ℕ) × (r ≡ Read n mode k)) (table' ≡ table)
+pub reading-outcome : (x : Bytes) (table : List ℕ) (r : Result Reading Refusal) (table' : List ℕ) → ReadAllows x table r table'
+    → Outcome (text_fault x (length table)) (λ q. r ≡ Err q) ((c : Reading) × (r ≡ Ok c)) (table' ≡ table)
 unfolding reading reading_of room_filled filled_of
 reading-outcome x table r table' a =
     record {
       says = λ q. (λ h. rw h at a.0, λ h. said (text_fault x (length table)) refl q h);
-      accepts = (λ h. (_, _, _, rw h at a.0), λ h. accepted (text_fault x (length table)) refl h.0 h.1 h.2 h.3);
+      accepts = (λ h. (_, rw h at a.0), λ h. accepted (text_fault x (length table)) refl h.0 h.1);
       kept = λ q h. rw h at a.1;
     }
   where
-    said : (o : Option Refusal) → text_fault x (length table) ≡ o → (q : Refusal) → r ≡ NotRead q → text_fault x (length table) ≡ some q
+    said : (o : Option Refusal) → text_fault x (length table) ≡ o → (q : Refusal) → r ≡ Err q → text_fault x (length table) ≡ some q
     said none e q h = let b = rw e at a.0 in absurd (let z : ◌≡◌ {A = ℕ} 0 1 = cc in omega arith)
     said (some p) e q h = let b = rw e at a.0 in cc
 
-    accepted : (o : Option Refusal) → text_fault x (length table) ≡ o → (n mode k : ℕ) → r ≡ Read n mode k → text_fault x (length table) ≡ none
-    accepted none e n mode k h = e
-    accepted (some p) e n mode k h = let b = rw e at a.0 in absurd (let z : ◌≡◌ {A = ℕ} 0 1 = cc in omega arith)
+    accepted : (o : Option Refusal) → text_fault x (length table) ≡ o → (c : Reading) → r ≡ Ok c → text_fault x (length table) ≡ none
+    accepted none e c h = e
+    accepted (some p) e c h = let b = rw e at a.0 in absurd (let z : ◌≡◌ {A = ℕ} 0 1 = cc in omega arith)
 
-pub check-outcome : (t : Table) (r : Checked) → CheckAllows t r → Outcome (table_fault t) (λ q. r ≡ NotFine q) (r ≡ Fine) Unit
+pub check-outcome : (t : Table) (r : Result Unit Refusal) → CheckAllows t r → Outcome (table_fault t) (λ q. r ≡ Err q) (r ≡ Ok tt) Unit
 check-outcome t r a =
     record {
       says = λ q. (λ h. rw h at a, λ h. said (table_fault t) refl q h);
@@ -76,11 +70,11 @@ check-outcome t r a =
       kept = λ q h. tt;
     }
   where
-    said : (o : Option Refusal) → table_fault t ≡ o → (q : Refusal) → r ≡ NotFine q → table_fault t ≡ some q
+    said : (o : Option Refusal) → table_fault t ≡ o → (q : Refusal) → r ≡ Err q → table_fault t ≡ some q
     said none e q h = let b = rw e at a in absurd (let z : ◌≡◌ {A = ℕ} 0 1 = cc in omega arith)
     said (some p) e q h = let b = rw e at a in cc
 
-    accepted : (o : Option Refusal) → table_fault t ≡ o → r ≡ Fine → table_fault t ≡ none
+    accepted : (o : Option Refusal) → table_fault t ≡ o → r ≡ Ok tt → table_fault t ≡ none
     accepted none e h = e
     accepted (some p) e h = let b = rw e at a in absurd (let z : ◌≡◌ {A = ℕ} 0 1 = cc in omega arith)
 
@@ -88,26 +82,26 @@ module _ (t : Table) (mode k : ℕ) (room : List ℤ) (work : List ℕ) where
   abbrev fault : Option Refusal
   fault = asking_fault t mode k (length room) (length work)
 
-  pub ask-outcome : (r : Answer) (room' : List ℤ) (work' : List ℕ) → AskAllows t mode k room work r room' work'
-      → Outcome fault (λ q. r ≡ NotGiven q) ((rows : ℕ) × (total : ℕ) × (r ≡ Given rows total)) ((room' ≡ room) × (work' ≡ work))
+  pub ask-outcome : (r : Result Answer Refusal) (room' : List ℤ) (work' : List ℕ) → AskAllows t mode k room work r room' work'
+      → Outcome fault (λ q. r ≡ Err q) ((b : Answer) × (r ≡ Ok b)) ((room' ≡ room) × (work' ≡ work))
   unfolding answer answer_of room_after room_of work_after work_of
   ask-outcome r room' work' a =
       record {
         says = λ q. (λ h. rw h at a.0, λ h. said fault refl q h);
-        accepts = (λ h. (_, _, rw h at a.0), λ h. accepted fault refl h.0 h.1 h.2);
+        accepts = (λ h. (_, rw h at a.0), λ h. accepted fault refl h.0 h.1);
         kept = λ q h. (rw h at a.1, rw h at a.2);
       }
     where
-      said : (o : Option Refusal) → fault ≡ o → (q : Refusal) → r ≡ NotGiven q → fault ≡ some q
+      said : (o : Option Refusal) → fault ≡ o → (q : Refusal) → r ≡ Err q → fault ≡ some q
       said none e q h = let b = rw e at a.0 in absurd (let z : ◌≡◌ {A = ℕ} 0 1 = cc in omega arith)
       said (some p) e q h = let b = rw e at a.0 in cc
 
-      accepted : (o : Option Refusal) → fault ≡ o → (rows total : ℕ) → r ≡ Given rows total → fault ≡ none
-      accepted none e rows total h = e
-      accepted (some p) e rows total h = let b = rw e at a.0 in absurd (let z : ◌≡◌ {A = ℕ} 0 1 = cc in omega arith)
+      accepted : (o : Option Refusal) → fault ≡ o → (b : Answer) → r ≡ Ok b → fault ≡ none
+      accepted none e d h = e
+      accepted (some p) e d h = let b = rw e at a.0 in absurd (let z : ◌≡◌ {A = ℕ} 0 1 = cc in omega arith)
 
-pub enter-outcome : (list : List Candidate) (count : ℕ) (c : Candidate) (r : Entered) (list' : List Candidate) → EnterAllows list count c r list'
-    → Outcome (enter_fault count (length list)) (λ q. r ≡ NotEntered q) ((n : ℕ) × (r ≡ Count n)) (list' ≡ list)
+pub enter-outcome : (list : List Candidate) (count : ℕ) (c : Candidate) (r : Result ℕ Refusal) (list' : List Candidate) → EnterAllows list count c r list'
+    → Outcome (enter_fault count (length list)) (λ q. r ≡ Err q) ((n : ℕ) × (r ≡ Ok n)) (list' ≡ list)
 unfolding enter_answer entered_of list_after list_of
 enter-outcome list count c r list' a =
     let o = enter_fault count (length list) in
@@ -117,11 +111,11 @@ enter-outcome list count c r list' a =
       kept = λ q h. rw h at a.1;
     }
   where
-    said : (o : Option Refusal) → enter_fault count (length list) ≡ o → (q : Refusal) → r ≡ NotEntered q → enter_fault count (length list) ≡ some q
+    said : (o : Option Refusal) → enter_fault count (length list) ≡ o → (q : Refusal) → r ≡ Err q → enter_fault count (length list) ≡ some q
     said none e q h = let b = rw e at a.0 in absurd (let z : ◌≡◌ {A = ℕ} 0 1 = cc in omega arith)
     said (some p) e q h = let b = rw e at a.0 in cc
 
-    accepted : (o : Option Refusal) → enter_fault count (length list) ≡ o → (n : ℕ) → r ≡ Count n → enter_fault count (length list) ≡ none
+    accepted : (o : Option Refusal) → enter_fault count (length list) ≡ o → (n : ℕ) → r ≡ Ok n → enter_fault count (length list) ≡ none
     accepted none e n h = e
     accepted (some p) e n h = let b = rw e at a.0 in absurd (let z : ◌≡◌ {A = ℕ} 0 1 = cc in omega arith)
 
