@@ -1,9 +1,0 @@
--- `cases_asking::sum_work` is safe and ends. Assumes nothing.
-use Rattle.std.proofs.Common.{◌≤◌, ◌-◌, length}
-use Rattle.cases_asking.proofs.sum_work.Given as goal
-
-abbrev pub invariant-loop-i : goal.invariant-loop-i
-invariant-loop-i l = l.i ≤ length l.work
-
-abbrev pub decreases-loop-i : goal.decreases-loop-i
-decreases-loop-i l = length l.work - l.i

@@ -1,9 +1,0 @@
--- `cases_reading::behind_numbers` is safe and ends. Assumes nothing.
-use Rattle.std.proofs.Common.{◌≤◌, ◌-◌}
-use Rattle.cases_reading.proofs.behind_numbers.Given as goal
-
-abbrev pub invariant-loop-i : goal.invariant-loop-i
-invariant-loop-i l = l.i ≤ l.count
-
-abbrev pub decreases-loop-i : goal.decreases-loop-i
-decreases-loop-i l = l.count - l.i
