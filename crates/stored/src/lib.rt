@@ -124,7 +124,7 @@ pub fn print_number(out: &Stdout, n: u64) -> io::Result<()> {
 }
 
 // A refusal with its number and place.
-// Stays: Display of Refusal would serve this line alone, since `printing` writes bytes, with spaces for the tabs.
+// Stays: Display of Refusal would serve this line alone, since `printing` puts bytes into lent memory and counts those that do not fit too.
 pub fn print_refusal(out: &Stdout, refusal: Refusal) -> io::Result<()> {
     print!(out; "refused\t{}\t{}", refusal.number(), refusal.place())
 }

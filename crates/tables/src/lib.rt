@@ -78,6 +78,7 @@ fn check_tests(table: &[u32]) -> Result<(), Refusal>
 // ---- the table's numbers; what is not there reads as 0
 
 // The number at place i of the table.
+// Stays: 0 where there is none, as the definitions read a table; docs/DECISIONS.md names it.
 pub fn at(table: &[u32], i: usize) -> u32
     ensures { result ≡ get_or table.now i 0 }
 {

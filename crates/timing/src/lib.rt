@@ -92,7 +92,7 @@ pub enum Kind {
 
 impl Kind {
     // Its number in the table.
-    // Stays: 32 bits, as the table is written; `TryFrom` takes the number as it is read, as a usize.
+    // Stays: `From<Kind> for u32` would be the same line; `TryFrom`, the way back, takes the number as it is read, as a usize.
     pub fn number(self) -> u32
         ensures { result ≡ kind_number self }
     {
@@ -100,7 +100,7 @@ impl Kind {
     }
 
     // The kind that a letter names.
-    // Stays: a method, since `TryFrom` is taken by the number.
+    // Stays: a method, since `Kind::try_from` of a u8 would read a letter and of a usize a number; by its name a call says which.
     pub fn of_letter(letter: u8) -> Option<Kind>
         ensures { Letters letter result }
     {
@@ -230,7 +230,7 @@ impl Refusal {
 }
 
 // What an accepted text gives: the table's length, the mode and k.
-// Stays: the mode is a number, 0 setup and 1 hold, here and in all crates, as document 01, the C interface and `report::ask` have it.
+// Stays: the mode is a number, here 0 setup and 1 hold, and so in all crates, as document 01, the C interface and `report::ask` have it.
 #[derive(Clone, Copy, Debug, PartialEq, Eq)]
 pub struct Reading {
     pub length: usize,
