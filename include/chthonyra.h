@@ -2,7 +2,7 @@
  * chthonyra.h: the worst timing paths of a hard block after common clock path credit, for C and C++.
  *
  * Build the archive with `rt lib` in crates/chthonyra and link crates/chthonyra/out/libchthonyra.a. It is for Linux on x86-64 and wants nothing but
- * memcpy, memmove and memset of the C library: no heap, no files, no threads, no state of its own. Calls on different buffers may run at the same time.
+ * memcpy and memset of the C library: no heap, no files, no threads, no state of its own. Calls on different buffers may run at the same time.
  *
  * Every call answers, at every input. `refusal` is 0 where the operation answered; else it is a number of the table below, `place` says where, and
  * every other number of the struct is 0. A refused call writes nothing.

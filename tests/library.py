@@ -3,8 +3,8 @@
     python3 -B tests/library.py
 
 gcc and cargo are installed by apt-get where they are absent; without them it fails. Steps: `rt lib` in crates/chthonyra; the C
-program and the C tests compiled with every warning an error, and run; the Rust crate's own tests, with no network; both examples run over texts. The last
-line is 'N passed, 0 failed'; exit status 1 if any failed.
+program and the C tests compiled with every warning an error, and run; the names that the archive wants from outside; the Rust crate's own
+tests, with no network; both examples run over texts. The last line is 'N passed, 0 failed'; exit status 1 if any failed.
 """
 
 import os
@@ -23,6 +23,7 @@ from program import wanted_prints  # noqa: E402
 MADE = os.path.join(ROOT, "target", "library")
 LIBRARY = os.path.join(ROOT, "crates", "chthonyra")
 ARCHIVE = os.path.join(LIBRARY, "out", "libchthonyra.a")
+FROM_OUTSIDE = {"memcpy", "memset"}  # all that README.md and include/chthonyra.h let the archive want of the C library
 WARNINGS = ["-std=c11", "-O2", "-Wall", "-Wextra", "-Werror", "-pedantic", "-I" + os.path.join(ROOT, "include")]
 
 
@@ -49,6 +50,12 @@ def compiled(name, source):
     path = os.path.join(MADE, name)
     must(["gcc", *WARNINGS, os.path.join(ROOT, source), ARCHIVE, "-o", path])
     return path
+
+
+def wanted_names():
+    """The names that the archive takes from outside."""
+    lines = [line.split() for line in must(["nm", "-u", ARCHIVE]).decode().split("\n")]
+    return {words[1] for words in lines if len(words) == 2}
 
 
 def cargo(*words):
@@ -115,6 +122,12 @@ def main():
     rust_example = os.path.join(ROOT, "target", "rust", "debug", "examples", "worst")
     examples = ((compiled("worst", "examples/c/worst.c"), dotted), (rust_example, escaped))
     failed = 0
+    names = wanted_names()
+    if names == FROM_OUTSIDE:
+        passed += 1
+    else:
+        failed += 1
+        print(f"the archive wants {sorted(names)} from outside, not {sorted(FROM_OUTSIDE)}")
     for name, text, wanted in chosen():
         for program, show in examples:
             if agrees(program, show, text, wanted):

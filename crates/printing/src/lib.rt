@@ -49,7 +49,9 @@ impl Out<'_> {
         ensures { Puts (9 ∷ I.text x) self.old self.new }
     {
         self.byte(b'\t');
-        self.word(Buffer::new().format(x).as_bytes());
+        let mut digits = Buffer::new();
+        let text = digits.format(x).as_bytes();
+        self.word(text);
     }
 
     // A tab and a number, for each number.

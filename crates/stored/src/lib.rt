@@ -70,7 +70,7 @@ impl<'a> Numbers<'a> {
 
 // The next length in the file: four bytes, the lowest first. What is not there counts as 0.
 // Stays: no error comes of it, here and in `each_case`, since docs/PORT.md says that a read that fails counts as the end of the data.
-fn next_length(input: &mut File) -> usize
+pub fn next_length(input: &mut File) -> usize
     ensures { result < 4294967296 }
 {
     let mut four = [0; 4];

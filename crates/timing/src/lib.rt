@@ -148,7 +148,7 @@ impl TryFrom<usize> for Kind {
 pub fn may_drive(from: usize, to: usize) -> bool
     ensures { result ≡ may_drive from to }
 {
-    from < Design::KINDS && to < Design::KINDS && Design::DRIVES[from][to]
+    from < Design::KINDS && (to < Design::KINDS && Design::DRIVES[from][to])
 }
 
 // Why an operation refuses; with it the line, pin, arc or test where it has one.

@@ -72,11 +72,14 @@ fn numbered() -> [u8; Design::K]
 }
 
 // The slot at place n goes to place at; those between go one on.
+// Stays: no `rotate_right`, which wants `memmove` of the C library; the archive for C has only `memcpy` and `memset` to ask for.
 fn turn(slots: &mut [u8; Design::K], at: usize, n: usize)
     requires { (at ≤ n) × (n < most_k) }
     ensures { Moved slots.old at n slots.new }
 {
-    slots[at..n + 1].rotate_right(1);
+    let slot = slots[n];
+    slots.copy_within(at..n, at + 1);
+    slots[at] = slot;
 }
 
 impl Best {
@@ -340,6 +343,7 @@ impl Hints {
     // One hint for all tests, just above the least slack that was passed over. In the last round it is above every slack.
     fn raised(out: i64, last_round: bool) -> Hints
         ensures near { OneApart result }
+        ensures alike { result.high ≡ result.low }
         ensures ends { last_round ≡ true → Less (pos 257000000) result.low }
     {
         let hint = if last_round { ABOVE } else { after(out) };

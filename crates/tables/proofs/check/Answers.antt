@@ -5,8 +5,5 @@ use Rattle.timing.proofs.Laws.Accepted.{header-fits}
 use Rattle.tables.proofs.Order.{fine-not}
 use Rattle.tables.proofs.check.Goals as goal
 
-pub arcs_into-requires : goal.arcs_into-requires
-arcs_into-requires c = header-fits _ (fine-not _ TableHeader (search rules))
-
 pub check_arcs_into-requires : goal.check_arcs_into-requires
-check_arcs_into-requires c = (header-fits _ (fine-not _ TableHeader (search rules)), c.arcs_into.ensures)
+check_arcs_into-requires c = header-fits _ (fine-not _ TableHeader (search rules))

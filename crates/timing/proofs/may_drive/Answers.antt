@@ -11,7 +11,6 @@ use Rattle.lists.proofs.Laws.Member.{every_in, into-below}
 use Rattle.timing.specs.Kinds.{allowed, may_drive}
 use Rattle.timing.proofs.Laws.Kinds.{drive-kinds}
 use Rattle.timing.proofs.may_drive.Goals as goal
-use Rattle.timing.proofs.may_drive.Goals.{then-from-lt-KINDS, else-from-lt-KINDS}
 
 -- the code's table
 entries : List (List Bool)
@@ -58,15 +57,10 @@ beyond b e f k h = rw e (go (may_drive f k) refl)
 
 pub returns-then-to-lt-KINDS : goal.returns-then-to-lt-KINDS
 unfolding entries
-returns-then-to-lt-KINDS c =
-    elim c.if-from-lt-KINDS.branch [
-      | then-from-lt-KINDS w ↦ right-at _ _ (search rules) (search rules)
-      | else-from-lt-KINDS w ↦ search rules
-    ]
+returns-then-to-lt-KINDS c = right-at _ _ (search rules) (search rules)
 
 pub returns-else-to-lt-KINDS : goal.returns-else-to-lt-KINDS
-returns-else-to-lt-KINDS c =
-    elim c.if-from-lt-KINDS.branch [
-      | then-from-lt-KINDS w ↦ rw w.t-4-is (beyond _ (search rules) _ _ (λ l m. search rules))
-      | else-from-lt-KINDS w ↦ rw w.t-4-is (beyond _ (search rules) _ _ (λ l m. search rules))
-    ]
+returns-else-to-lt-KINDS c = beyond _ (search rules) _ _ (λ l m. search rules)
+
+pub returns-else-from-lt-KINDS : goal.returns-else-from-lt-KINDS
+returns-else-from-lt-KINDS c = beyond _ (search rules) _ _ (λ l m. search rules)

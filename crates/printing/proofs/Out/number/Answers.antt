@@ -7,4 +7,4 @@ use Rattle.printing.proofs.Out.number.Goals as goal
 pub returns : goal.returns
 returns g c =
     puts-join (9 ∷ []) (g.I.Integer.text c.args.x) _ _ _ (omega arith) c.byte.ensures
-    (rw (c.as_bytes.ensures.value, c.format.ensures.text) at c.word.ensures)
+    (rw (c.as_bytes-text.ensures.value, c.format.ensures.text) at c.word.ensures)
