@@ -23,6 +23,10 @@ puts-none o h = record { same = refl; put = put-none o.bytes.now o.at h }
 pub puts-join : (a b : Bytes) (o p q : Out) → length o.bytes.now ≤ most → Puts a o p → Puts b p q → Puts (a ++ b) o q
 puts-join a b o p q h x y = record { same = y.same ∙ x.same; put = put-join a b h x.put y.put }
 
+-- the same bytes, said in another way
+pub puts-same : (a b : Bytes) (o p : Out) → Puts a o p → a ≡ b → Puts b o p
+puts-same a b o p h e = rw e at h
+
 -- ---- numbers
 
 -- the digits are made from the last one on, as std's are
